@@ -1,0 +1,4 @@
+pub mod Lengths
+pub mod ReadsBack
+pub mod Splits
+pub mod Texts
