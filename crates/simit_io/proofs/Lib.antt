@@ -1,0 +1,4 @@
+pub mod FaultCounts
+pub mod FileNames
+pub mod PutBytes
+pub mod TakenBytes

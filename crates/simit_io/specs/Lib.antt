@@ -1,0 +1,5 @@
+pub mod Inputs
+pub mod Sink
+pub mod Plan
+pub mod MemInputs
+pub mod MemSink

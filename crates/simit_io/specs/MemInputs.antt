@@ -1,0 +1,46 @@
+-- Inputs over memory: files that are given whole, calls that fail by their numbers, and short takes.
+use Rattle.std.specs.Prelude.{◌≡◌, ◌-◌, ◌<◌, ◌≤◌, ℕ, ⊤, min, List, [], length, drop, slice_get, find, bytes_eq, Option, None, Some, option_map, unwrap_or}
+use Rattle.simit_io.specs.Inputs.{Files}
+use Rattle.simit_io.specs.declared.mem_inputs.MemFile.{MemFile}
+use Rattle.simit_io.specs.declared.mem_inputs.Place.{Place}
+
+-- inputs over memory as contracts see them
+pub record Held : Type 0 where
+  pub files : List MemFile
+  -- the numbers of the calls that fail
+  pub fail : List ℕ
+  -- the most bytes that a take gives
+  pub most : ℕ
+  -- the bytes of the open file that are not yet read
+  pub left : List ℕ
+  -- how many calls of open and take there were, which is the next one's number
+  pub calls : ℕ
+  pub faults : ℕ
+
+-- of two files of one name the first is the one that is held
+abbrev pub file_named : List MemFile → Files
+file_named files name = option_map (λ file. file.bytes) (find (λ file. bytes_eq file.name name) files)
+
+-- what no call changes
+pub record IsSameSetting (old new : Held) : Type 0 where
+  pub files : new.files ≡ old.files
+  pub fail : new.fail ≡ old.fail
+  pub most : new.most ≡ old.most
+
+-- the bytes of the file at that index
+abbrev pub bytes_at : List MemFile → ℕ → List ℕ
+bytes_at files index = unwrap_or (option_map (λ file. file.bytes) (slice_get files index)) []
+
+-- the bytes of the open file from that place on
+abbrev pub left_from : List MemFile → Option Place → List ℕ
+left_from files None = []
+left_from files (Some place) = let bytes = bytes_at files place.file in drop (length bytes - place.left) bytes
+
+-- the place is in a file
+abbrev pub IsInFile : List MemFile → Option Place → Type 0
+IsInFile files None = ⊤
+IsInFile files (Some place) = (place.file < length files) × (place.left ≤ length (bytes_at files place.file))
+
+-- how many bytes a take that doesn't fail gives for a buffer of that size
+abbrev pub taken_of : Held → ℕ → ℕ
+taken_of held size = min size (min held.most (length held.left))
