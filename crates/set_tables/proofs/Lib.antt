@@ -1,0 +1,4 @@
+pub mod RecordsLeft
+pub mod RowsRead
+pub mod TableRead
+pub mod LinesWritten

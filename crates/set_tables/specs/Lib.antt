@@ -1,0 +1,7 @@
+pub mod Schema
+pub mod Table
+pub mod Place
+pub mod Records
+pub mod Inside
+pub mod Reading
+pub mod Output
