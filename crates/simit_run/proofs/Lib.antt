@@ -1,0 +1,14 @@
+pub mod Blocks
+pub mod Lexing
+pub mod LexingLaw
+pub mod LexingTables
+pub mod Repeat
+pub mod Puts
+pub mod Stages
+pub mod Endings
+pub mod Grammar
+pub mod GrammarNames
+pub mod GrammarSound
+pub mod GrammarComplete
+pub mod GrammarLaw
+pub mod GrammarNumbers

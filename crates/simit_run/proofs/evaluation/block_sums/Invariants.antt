@@ -1,0 +1,11 @@
+use Rattle.std.proofs.Common.{◌≡◌, ℕ, ◌+◌, ◌<◌, length, take, slice_index}
+use Rattle.simit_run.specs.Meaning.{sum_at}
+use Rattle.simit_run.proofs.evaluation.block_sums.Given as goal
+
+-- the sums of the terms so far
+abbrev pub invariant-loop-term : goal.invariant-loop-term
+invariant-loop-term l = record {
+  size : length l.totals ≡ length l.fn.totals;
+  room : length l.products ≡ length l.fn.totals;
+  so_far : (k : ℕ) → k < length l.fn.totals → slice_index l.totals k ≡ sum_at l.columns (l.from + k) (take l.term-index l.terms);
+}

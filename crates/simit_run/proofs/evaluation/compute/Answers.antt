@@ -1,0 +1,18 @@
+use Rattle.std.proofs.Common.{◌≡◌, ◌++◌, length, arith}
+use Rattle.std.proofs.lemmas.Grind.{common_steps}
+use Rattle.simit_run.specs.Meaning.{sum_at}
+use Rattle.simit_run.proofs.Blocks.{block_grows}
+use Rattle.simit_run.proofs.evaluation.compute.Goals as goal
+
+pub loop-done-preserved : goal.loop-done-preserved
+loop-done-preserved c =
+    let block = c.block_sums.new.totals in
+    let size : length block ≡ c.min-size.result = grind (arith, common_steps) in
+    let grown : c.extend_from_slice.new.self.items ≡ c.loop-done.right.items ++ block = grind (arith, common_steps, c.in_ok-extend_from_slice.ensures.items) in
+    record {
+      within = omega arith;
+      totals_size = grind (arith, common_steps);
+      products_size = grind (arith, common_steps);
+      so_far =
+          block_grows (λ e. sum_at c.args.columns.now e c.args.terms.now) c.loop-done.right.items c.extend_from_slice.new.self.items block c.loop-done.done c.min-size.result c.loop-done.invariant.so_far grown size (λ k below. c.block_sums.ensures k (grind (arith, common_steps)));
+    }

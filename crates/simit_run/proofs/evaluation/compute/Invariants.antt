@@ -1,0 +1,15 @@
+use Rattle.std.proofs.Common.{◌≡◌, ◌≤◌, ◌-◌, length}
+use Rattle.simit_run.specs.Meaning.{right_side}
+use Rattle.simit_run.proofs.evaluation.compute.Given as goal
+
+-- the words of the elements so far
+abbrev pub invariant-loop-done : goal.invariant-loop-done
+invariant-loop-done l = record {
+  within : l.done ≤ l.count;
+  totals_size : length l.totals ≡ 512;
+  products_size : length l.products ≡ 512;
+  so_far : l.right.items ≡ right_side l.done l.columns l.terms;
+}
+
+abbrev pub decreases-loop-done : goal.decreases-loop-done
+decreases-loop-done l = l.count - l.done

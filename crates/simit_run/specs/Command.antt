@@ -1,0 +1,7 @@
+-- A command as definitions see it.
+use Rattle.simit_run.specs.Answer as answer
+use Rattle.simit_run.specs.declared.command.Command.{Command}
+
+-- the names that a command has
+abbrev pub shown : Command → answer.Command
+shown command = record { program = command.program.now; table = command.table.now }

@@ -1,0 +1,363 @@
+//! Cuts the text of a program into its tokens.
+//!
+//! Blanks and comments separate tokens, and each token is the longest that can stand at its place. A text
+//! has at most 65,536 tokens with its end, a name at most 64 bytes, and at most 64 brackets and blocks are
+//! open at once.
+
+ghost use Rattle.std.specs.Prelude.{◌≡◌, ◌+◌, ◌<◌, ◌≤◌, ◌^◌, length, take, drop, count_by, IfOk, IfSome, All, bytes_eq, find, option_map, nat_eq, map, position, slice_index_or, []};
+ghost use Rattle.std.specs.List.{starts_with, range_with_len};
+ghost use Rattle.simit_run.specs.Tokens as spec;
+
+use crate::token::{KEYWORDS, LexFault, SYMBOLS, Token, TokenKind, keyword, symbol};
+use std::alloc::Global;
+
+/// The most tokens that a text may have, its end included.
+const MOST_TOKENS: usize = 65_536;
+/// The most bytes that a name may have.
+const LONGEST_NAME: u32 = 64;
+/// The most brackets and blocks that may be open at once.
+const MOST_DEPTH: u32 = 64;
+
+/// The tokens of a text of at most 2^20 bytes, the last of them its end, or the first fault in the text.
+pub fn lex(alloc: Global, bytes: &[u8]) -> Result<Vec<Token>, LexFault>
+    requires { length bytes.now ≤ 2 ^ 20 }
+    // Which tokens they are, and which fault it is.
+    ensures exact { spec.Answers result (spec.tokens bytes.now) }
+    // The text is their bytes with gaps between.
+    ensures cut { IfOk result (λ v. spec.IsCut bytes.now 0 v.items) }
+    ensures spelled { IfOk result (λ v. All (spec.IsSpelled bytes.now) v.items) }
+    // What a reader of them can rely on.
+    ensures lies { IfOk result (λ v. All (spec.LiesIn bytes.now) v.items) }
+    ensures few { IfOk result (λ v. length v.items ≤ 65536) }
+    ensures ends { IfOk result (λ v. spec.EndsOnce v.items) }
+{
+    let mut tokens = Vec::new(alloc);
+    let mut last = Token {
+        kind: TokenKind::End,
+        from: 0,
+        to: 0,
+        line: 1,
+    };
+    let mut depth = 0;
+    loop {
+        let token = token_after(bytes, last)?;
+        if tokens.len() == MOST_TOKENS {
+            return Err(LexFault::TooMany { at: token.from });
+        }
+        depth = depth_behind(depth, token)?;
+        tokens.push(token).map_err(|_| LexFault::Memory)?;
+        if token.kind == TokenKind::End {
+            return Ok(tokens);
+        }
+        last = token;
+    }
+}
+
+/// The token behind the gap that follows the last token, or the bad byte there.
+#[tactic(auto, using(crate::proofs::Lexing::line_moves), unfolding(crate::specs::Tokens::token_after))]
+fn token_after(bytes: &[u8], last: Token) -> Result<Token, LexFault>
+    requires size { length bytes.now ≤ 2 ^ 20 }
+    requires last { spec.LiesIn bytes.now last }
+    requires line { last.line ≡ spec.line_at bytes.now last.from }
+    ensures exact { result ≡ spec.token_after bytes.now last.to }
+    ensures lies { IfOk result (spec.LiesIn bytes.now) }
+    ensures line { IfOk result (λ token. token.line ≡ spec.line_at bytes.now token.from) }
+{
+    let place = last.to as usize;
+    let from = place + gap_len(&bytes[place..]);
+    match token_at(&bytes[from..]) {
+        None => Err(LexFault::BadByte { at: from as u32 }),
+        Some((kind, size)) => Ok(Token {
+            kind,
+            from: from as u32,
+            to: (from + size) as u32,
+            line: last.line + line_feeds(&bytes[last.from as usize..from]) as u32,
+        }),
+    }
+}
+
+/// How many line feeds there are.
+fn line_feeds(bytes: &[u8]) -> usize
+    ensures { result ≡ count_by spec.is_line_feed bytes.now }
+{
+    bytes.iter().filter(|b| **b == b'\n').count()
+}
+
+/// How many brackets and blocks are open behind a token, where `depth` are before it, or the token's fault.
+#[tactic(auto, unfolding(crate::specs::Tokens::depth_behind))]
+fn depth_behind(depth: u32, token: Token) -> Result<u32, LexFault>
+    requires order { token.from ≤ token.to }
+    requires depth { depth ≤ 64 }
+    ensures exact { result ≡ spec.depth_behind depth token }
+    ensures within { IfOk result (λ depth. depth ≤ 64) }
+{
+    if token.kind == TokenKind::Name && token.to - token.from > LONGEST_NAME {
+        return Err(LexFault::LongName { at: token.from });
+    }
+    let depth = depth_after(depth, token.kind);
+    if depth > MOST_DEPTH {
+        return Err(LexFault::TooDeep { at: token.from });
+    }
+    Ok(depth)
+}
+
+/// The depth behind a token of this kind, from the depth before it. It never falls below 0.
+fn depth_after(depth: u32, kind: TokenKind) -> u32
+    requires { depth ≤ 64 }
+    ensures { result ≡ spec.depth_after depth kind }
+{
+    if opens(kind) {
+        depth + 1
+    } else if closes(kind) {
+        depth.saturating_sub(1)
+    } else {
+        depth
+    }
+}
+
+fn opens(kind: TokenKind) -> bool
+    ensures { result ≡ spec.opens kind }
+{
+    match kind {
+        TokenKind::Keyword(n) => n == keyword::IF || n == keyword::WHILE || n == keyword::FOR,
+        TokenKind::Symbol(n) => {
+            n == symbol::OPEN_PAREN || n == symbol::OPEN_BRACKET || n == symbol::OPEN_BRACE
+        }
+        _ => false,
+    }
+}
+
+fn closes(kind: TokenKind) -> bool
+    ensures { result ≡ spec.closes kind }
+{
+    match kind {
+        TokenKind::Keyword(n) => n == keyword::END,
+        TokenKind::Symbol(n) => {
+            n == symbol::CLOSE_PAREN || n == symbol::CLOSE_BRACKET || n == symbol::CLOSE_BRACE
+        }
+        _ => false,
+    }
+}
+
+/// How many bytes of blanks and comments stand at the front of a text.
+fn gap_len(text: &[u8]) -> usize
+    ensures exact { result ≡ spec.gap_len text.now }
+    ensures within { result ≤ length text.now }
+{
+    let mut in_comment = false;
+    for (i, b) in text.iter().enumerate() {
+        if in_comment {
+            in_comment = *b != b'\n';
+        } else if *b == b'%' {
+            in_comment = true;
+        } else if !is_blank(*b) {
+            return i;
+        }
+    }
+    text.len()
+}
+
+/// The kind of the token with which a text begins, and its length, unless the first byte begins none.
+#[tactic(auto, unfolding(crate::specs::Tokens::token_at))]
+fn token_at(text: &[u8]) -> Option<(TokenKind, usize)>
+    ensures exact { result ≡ spec.token_at text.now }
+    ensures within { IfSome result (λ token. token.1 ≤ length text.now) }
+{
+    match text {
+        [] => Some((TokenKind::End, 0)),
+        [b, ..] if is_letter(*b) => {
+            let size = name_len(text);
+            Some((word_kind(&text[..size]), size))
+        }
+        [b, ..] if b.is_ascii_digit() => Some((TokenKind::Number, number_len(text))),
+        _ => symbol_at(text),
+    }
+}
+
+/// The kind of a token that is spelled as a name.
+fn word_kind(word: &[u8]) -> TokenKind
+    ensures { result ≡ spec.word_kind word.now }
+{
+    match number_of(&KEYWORDS, word) {
+        None => TokenKind::Name,
+        Some(number) => TokenKind::Keyword(number),
+    }
+}
+
+/// The number of the first row that spells the word, where the rows are numbered by their places.
+fn number_of(rows: &[(&[u8], u8)], word: &[u8]) -> Option<u8>
+    requires { map (λ row. row.1) rows.now ≡ range_with_len 0 (length rows.now) }
+    ensures { result ≡ position (λ spelling. bytes_eq spelling word.now) (map (λ row. row.0.now) rows.now) }
+{
+    rows.iter().find(|row| row.0 == word).map(|row| row.1)
+}
+
+/// The first symbol of the table with which a text begins, and its length.
+fn symbol_at(text: &[u8]) -> Option<(TokenKind, usize)>
+    ensures exact { result ≡ spec.symbol_token_at text.now }
+    ensures within { IfSome result (λ token. token.1 ≤ length text.now) }
+{
+    beginning_of(&SYMBOLS, text).map(|(number, size)| (TokenKind::Symbol(number), size))
+}
+
+/// The number and the length of the first row with whose spelling the text begins, where the rows are
+/// numbered by their places.
+fn beginning_of(rows: &[(&[u8], u8)], text: &[u8]) -> Option<(u8, usize)>
+    requires { map (λ row. row.1) rows.now ≡ range_with_len 0 (length rows.now) }
+    ensures exact { let spellings = map (λ row. row.0.now) rows.now in
+        result ≡ option_map (λ n. (n, length (slice_index_or spellings n []))) (position (starts_with nat_eq text.now) spellings) }
+    ensures within { IfSome result (λ found. found.1 ≤ length text.now) }
+{
+    rows.iter()
+        .find(|row| text.starts_with(row.0))
+        .map(|row| (row.1, row.0.len()))
+}
+
+/// How many bytes at the front can stand in a name.
+fn name_len(text: &[u8]) -> usize
+    ensures exact { result ≡ spec.name_len text.now }
+    ensures within { result ≤ length text.now }
+{
+    text.iter().take_while(|b| is_name_byte(**b)).count()
+}
+
+/// How many digits stand at the front.
+fn digits_len(text: &[u8]) -> usize
+    ensures exact { result ≡ spec.digits_len text.now }
+    ensures within { result ≤ length text.now }
+{
+    text.iter().take_while(|b| b.is_ascii_digit()).count()
+}
+
+/// The length of the number at the front. A point belongs to it where a digit follows.
+fn number_len(text: &[u8]) -> usize
+    ensures exact { result ≡ spec.number_len text.now }
+    ensures within { result ≤ length text.now }
+{
+    let whole = digits_len(text);
+    match &text[whole..] {
+        [b'.', decimals @ ..] => match digits_len(decimals) {
+            0 => whole,
+            size => whole + 1 + size,
+        },
+        _ => whole,
+    }
+}
+
+fn is_blank(b: u8) -> bool
+    ensures { result ≡ spec.is_blank b }
+{
+    b == b' ' || b == b'\t' || b == b'\r' || b == b'\n'
+}
+
+fn is_letter(b: u8) -> bool
+    ensures { result ≡ spec.is_letter b }
+{
+    b.is_ascii_alphabetic() || b == b'_'
+}
+
+fn is_name_byte(b: u8) -> bool
+    ensures { result ≡ spec.is_name_byte b }
+{
+    is_letter(b) || b.is_ascii_digit()
+}
+
+#[cfg(test)]
+mod tests {
+    use super::*;
+    use std::test::Fail;
+
+    const fn token(kind: TokenKind, from: u32, to: u32, line: u32) -> Token {
+        Token {
+            kind,
+            from,
+            to,
+            line,
+        }
+    }
+
+    #[test]
+    fn tokens(rt: HostRuntime) -> Result<(), Fail> {
+        let name = TokenKind::Name;
+        let number = TokenKind::Number;
+        let end = TokenKind::End;
+        let cases: [(&[u8], &[Token]); 6] = [
+            (b"", &[token(end, 0, 0, 1)]),
+            (
+                b"%\x00\xff\n a",
+                &[token(name, 5, 6, 2), token(end, 6, 6, 2)],
+            ),
+            (
+                b"iff if\t_9",
+                &[
+                    token(name, 0, 3, 1),
+                    token(TokenKind::Keyword(keyword::IF), 4, 6, 1),
+                    token(name, 7, 9, 1),
+                    token(end, 9, 9, 1),
+                ],
+            ),
+            (
+                b"1.5.x 7.",
+                &[
+                    token(number, 0, 3, 1),
+                    token(TokenKind::Symbol(symbol::POINT), 3, 4, 1),
+                    token(name, 4, 5, 1),
+                    token(number, 6, 7, 1),
+                    token(TokenKind::Symbol(symbol::POINT), 7, 8, 1),
+                    token(end, 8, 8, 1),
+                ],
+            ),
+            (
+                b"->-.*<=\r\n<% >\n",
+                &[
+                    token(TokenKind::Symbol(symbol::ARROW), 0, 2, 1),
+                    token(TokenKind::Symbol(symbol::MINUS), 2, 3, 1),
+                    token(TokenKind::Symbol(symbol::ENTRYWISE), 3, 5, 1),
+                    token(TokenKind::Symbol(symbol::AT_MOST), 5, 7, 1),
+                    token(TokenKind::Symbol(symbol::LESS), 9, 10, 2),
+                    token(end, 14, 14, 3),
+                ],
+            ),
+            (
+                b")(end while",
+                &[
+                    token(TokenKind::Symbol(symbol::CLOSE_PAREN), 0, 1, 1),
+                    token(TokenKind::Symbol(symbol::OPEN_PAREN), 1, 2, 1),
+                    token(TokenKind::Keyword(keyword::END), 2, 5, 1),
+                    token(TokenKind::Keyword(keyword::WHILE), 6, 11, 1),
+                    token(end, 11, 11, 1),
+                ],
+            ),
+        ];
+        for (text, wanted) in cases.iter() {
+            assert!(rt; text.len() <= 1 << 20);
+            let found = lex(rt.alloc(), text)?;
+            assert_eq!(rt; found.as_slice(), *wanted, "in {text:?}");
+        }
+        Ok(())
+    }
+
+    #[test]
+    fn faults(rt: HostRuntime) {
+        let name = [b'n'; 65];
+        let deep = [b'['; 65];
+        let mut many = [b'+'; 65_537];
+        many[65_536] = b'?';
+        let cases: [(&[u8], LexFault); 7] = [
+            (b"a\n ?", LexFault::BadByte { at: 3 }),
+            (b"a!", LexFault::BadByte { at: 1 }),
+            (&name, LexFault::LongName { at: 0 }),
+            (&deep, LexFault::TooDeep { at: 64 }),
+            (&many[..65_536], LexFault::TooMany { at: 65_536 }),
+            (&many, LexFault::BadByte { at: 65_536 }),
+            (b"\x0c", LexFault::BadByte { at: 0 }),
+        ];
+        for (text, wanted) in cases.iter() {
+            assert!(rt; text.len() <= 1 << 20);
+            assert!(rt; matches!(lex(rt.alloc(), text), Err(fault) if fault == *wanted));
+        }
+        assert!(rt; lex(rt.alloc(), &name[..64]).is_ok());
+        assert!(rt; lex(rt.alloc(), &deep[..64]).is_ok());
+        assert!(rt; lex(rt.alloc(), &many[..65_535]).is_ok());
+    }
+}

@@ -1,0 +1,21 @@
+//! The runner: reads a program and a table, runs the program's assignments and puts the table out.
+#![tactic(auto)]
+
+mod answering;
+mod command;
+mod evaluation;
+mod lexer;
+mod note;
+mod parser;
+mod parts;
+mod program;
+mod status;
+mod stop;
+mod sums;
+#[cfg(test)]
+mod tests;
+mod token;
+mod top_call;
+
+pub use status::Status;
+pub use top_call::run;
