@@ -1,0 +1,4 @@
+pub mod SetShape
+pub mod Sets
+pub mod Incident
+pub mod BadEndpoint

@@ -1,0 +1,15 @@
+use thiserror::Error;
+
+/// Out of memory.
+#[derive(Clone, Copy, Debug, PartialEq, Eq, Error)]
+#[error("out of memory")]
+pub struct NoMemory;
+
+/// An endpoint that isn't below the count of the set that it lies in, by its place.
+#[derive(Clone, Copy, Debug, PartialEq, Eq, Error)]
+#[error("no such endpoint: place {place} of element {element} of set {set}")]
+pub struct BadEndpoint {
+    pub set: u32,
+    pub element: u32,
+    pub place: u32,
+}
