@@ -31,7 +31,7 @@ impl Model for SetData {
 
 impl SetData {
     ghost use Rattle.std.specs.Prelude.{◌≡◌, ◌<◌, ◌≤◌, IfOk, MatchOption, length};
-    ghost use Rattle.hypergraph.specs.SetShape.{IsSetData, EndsBelow, column_at, end_at, set_of, with_column};
+    ghost use Rattle.hypergraph.specs.SetShape.{IsSetData, EndsBelow, column_at, end_at, most_columns, set_of, with_column};
     ghost use Rattle.hypergraph.specs.Incident.{has_end, incident_elements};
     ghost use Rattle.hypergraph.specs.BadEndpoint.{IsFirstBadIn};
 
@@ -80,6 +80,15 @@ impl SetData {
         ensures { result ≡ self.now.arity }
     {
         self.arity
+    }
+
+    /// How many columns the set has.
+    #[inline]
+    pub(crate) fn columns(&self) -> u32
+        ensures value { result ≡ length self.now.columns }
+        ensures bound { result ≤ most_columns }
+    {
+        self.columns.len() as u32
     }
 
     /// The endpoint at a place of an element.

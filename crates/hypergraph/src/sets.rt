@@ -24,7 +24,7 @@ impl Model for Sets {
 
 impl Sets {
     ghost use Rattle.std.specs.Prelude.{◌≡◌, ◌<◌, ◌≤◌, ◌↔◌, IfErr, IfOk, IsNone, length, slice_set};
-    ghost use Rattle.hypergraph.specs.SetShape.{column_at, end_at, most_elements, most_ends, with_column};
+    ghost use Rattle.hypergraph.specs.SetShape.{column_at, end_at, most_columns, most_elements, most_ends, with_column};
     ghost use Rattle.hypergraph.specs.Sets.{AreSets, AllLieOverEarlier, LiesOverEarlier, end_bound, most_sets, set_at};
     ghost use Rattle.hypergraph.specs.Incident.{incident_elements};
     ghost use Rattle.hypergraph.specs.BadEndpoint.{IsFirstBad};
@@ -72,6 +72,16 @@ impl Sets {
         ensures bound { result ≤ most_ends }
     {
         self.set(set).arity()
+    }
+
+    /// How many columns a set has.
+    #[inline]
+    pub fn columns(&self, set: u32) -> u32
+        requires { set < length self.now }
+        ensures value { result ≡ length (set_at self.now set).columns }
+        ensures bound { result ≤ most_columns }
+    {
+        self.set(set).columns()
     }
 
     /// The set that a set's endpoints lie in, an earlier one without endpoints. None exactly for a set that

@@ -72,12 +72,18 @@ fn shapes_of_sets(rt: HostRuntime) -> Result<(), Fail> {
     }
     let sets = Sets::of(list)?;
     assert_eq!(rt; sets.len(), 4);
-    let shapes = [(4, 0, None), (4, 2, Some(0)), (0, 0, None), (0, 3, Some(2))];
-    for (set, (count, arity, over)) in shapes.iter().enumerate() {
+    let shapes = [
+        (4, 0, None, 2),
+        (4, 2, Some(0), 1),
+        (0, 0, None, 1),
+        (0, 3, Some(2), 0),
+    ];
+    for (set, (count, arity, over, columns)) in shapes.iter().enumerate() {
         let set = set as u32;
         assert_eq!(rt; sets.count(set), *count);
         assert_eq!(rt; sets.arity(set), *arity);
         assert_eq!(rt; sets.over(set), *over);
+        assert_eq!(rt; sets.columns(set), *columns);
     }
     Ok(())
 }

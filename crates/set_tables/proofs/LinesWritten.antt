@@ -1,13 +1,15 @@
 -- How the cells of a line, and the lines of a table, follow one another.
-use Rattle.std.proofs.Common.{◌≡◌, ◌≤◌, ◌<◌, ◌+◌, ◌-◌, ℕ, zero, suc, List, [], ◌∷◌, ◌++◌, length, drop, get_or, refl, sym, ap, ◌∙◌, arith, append_assoc, length-append, drop-cons, add-one, subst, Vec, Global, vec_len, vec_capacity}
+use Rattle.std.proofs.Common.{◌≡◌, ◌≤◌, ◌<◌, ◌+◌, ◌-◌, ℕ, zero, suc, List, [], ◌∷◌, ◌++◌, length, drop, get_or, map, refl, sym, ap, ◌∙◌, arith, append_assoc, length-append, drop-cons, add-one, subst, Vec, Global, vec_len, vec_capacity}
 use Rattle.std.specs.Prelude.{slice_index}
-use Rattle.std.specs.List.{All, flat_map, join_with_byte, zip}
-use Rattle.std.proofs.lemmas.List.{append-nil, drop_all, get_or-map, length-map}
+use Rattle.std.specs.List.{flat_map, join_with_byte, range_with_len, zip}
+use Rattle.std.proofs.lemmas.List.{append-nil, drop_all, get_or-append_right, get_or_append_left, get_or-map, length-map}
+use Rattle.std.proofs.lemmas.List.FromFn.{get_or-map-range_with_len, length-map-range_with_len}
 use Rattle.std.proofs.lemmas.Slice.Zip.{get_or-zip, length-zip}
 use Rattle.ring_words.specs.Cell.{text}
 use Rattle.set_tables.specs.Output.{Grows, comma, element_cells, element_lines, line, line_feed, name_line, separator, table_text}
+use Rattle.hypergraph.specs.SetShape.{SetShape, column_at, end_at}
 use Rattle.set_tables.specs.Schema.{headings}
-use Rattle.set_tables.specs.declared.schema.Columns.{Columns}
+use Rattle.set_tables.proofs.Headings.{headings_width}
 use Rattle.set_tables.specs.declared.schema.Schema.{Schema}
 use Rattle.set_tables.specs.declared.schema.Column.{Column}
 
@@ -37,14 +39,14 @@ line-ends zero (cell ∷ cells) l m = absurd (omega arith)
 line-ends (suc k) cells l m = rw (drop_all (suc k) cells l) refl
 
 -- the lines of elements, one more and none more
-pub element-more : (columns : List Column) (words : List (List ℕ)) (element count : ℕ) → element < count
-    → element_lines columns words element (count - element) ≡ line (element_cells columns words element) ++ element_lines columns words (element + 1) (count - (element + 1))
-element-more columns words element count l =
+pub element-more : (schema : Schema) (set : SetShape) (element count : ℕ) → element < count
+    → element_lines schema set element (count - element) ≡ line (element_cells schema set element) ++ element_lines schema set (element + 1) (count - (element + 1))
+element-more schema set element count l =
     let n : count - element ≡ suc (count - (element + 1)) = omega arith in
     rw n refl
 
-pub elements-end : (columns : List Column) (words : List (List ℕ)) (element count : ℕ) → count ≤ element → element_lines columns words element (count - element) ≡ []
-elements-end columns words element count l =
+pub elements-end : (schema : Schema) (set : SetShape) (element count : ℕ) → count ≤ element → element_lines schema set element (count - element) ≡ []
+elements-end schema set element count l =
     let n : count - element ≡ 0 = omega arith in
     rw n refl
 
@@ -93,21 +95,35 @@ pub at-end : {Z : Type 0} (start now : Vec ℕ Z) (cells : List (List ℕ)) (k :
     → IsWriting start now (line cells) (left_of_line k cells) → IsWriting start now (line cells) ((line_feed ∷ []) ++ [])
 at-end start now cells k l m w = left-is start now (line cells) _ _ w (line-ends k cells l m)
 
--- the cell of an element by its place
-pub element-cell-at : (columns : List Column) (words : List (List ℕ)) (element k : ℕ) (column : Column) (column-words : List ℕ) → k < length columns → length words ≡ length columns
-    → column ≡ get_or columns k column → column-words ≡ get_or words k column-words
-    → get_or (element_cells columns words element) k [] ≡ text column.scale (slice_index column-words element)
-element-cell-at columns words element k column column-words l e is of =
-    let m : k < length words = omega arith in
-    let n : k < length (zip columns words) = omega (arith, length-zip columns words) in
-    let d : Column × List ℕ = (column, column-words) in
-    get_or-map (λ (p : Column × List ℕ). text p.0.scale (slice_index p.1 element)) (zip columns words) k d [] n
-    ∙ ap (λ (p : Column × List ℕ). text p.0.scale (slice_index p.1 element)) (get_or-zip columns words k d l m)
-    ∙ rw (← is, ← of) refl
+-- an element's cells
+ends-width : (schema : Schema) (set : SetShape) (element : ℕ) → length (map (λ place. text 0 (end_at set element place)) (range_with_len 0 schema.arity)) ≡ schema.arity
+ends-width schema set element = length-map-range_with_len (λ place. text 0 (end_at set element place)) 0 schema.arity
 
-pub length-element_cells : (columns : List Column) (words : List (List ℕ)) (element : ℕ) → length words ≡ length columns → length (element_cells columns words element) ≡ length columns
-length-element_cells columns words element e =
-    length-map (zip columns words) (λ (p : Column × List ℕ). text p.0.scale (slice_index p.1 element)) ∙ length-zip columns words ∙ omega arith
+pub length_element_cells : (schema : Schema) (set : SetShape) (element : ℕ) → length set.columns ≡ length schema.columns → length (element_cells schema set element) ≡ length (headings schema)
+length_element_cells schema set element e =
+    length-append (map (λ place. text 0 (end_at set element place)) (range_with_len 0 schema.arity)) (map (λ (p : Column × List ℕ). text p.0.scale (slice_index p.1 element)) (zip schema.columns set.columns))
+    ∙ omega (arith, ends-width schema set element, length-map (zip schema.columns set.columns) (λ (p : Column × List ℕ). text p.0.scale (slice_index p.1 element)), length-zip schema.columns set.columns, headings_width schema)
+
+-- the cell of an endpoint, and that of a word, by their places
+pub end_cell_at : (schema : Schema) (set : SetShape) (element k : ℕ) → k < schema.arity → get_or (element_cells schema set element) k [] ≡ text 0 (end_at set element k)
+end_cell_at schema set element k l =
+    let cells = map (λ place. text 0 (end_at set element place)) (range_with_len 0 schema.arity) in
+    let zero-on : 0 + k ≡ k = omega arith in
+    get_or_append_left cells (map (λ (p : Column × List ℕ). text p.0.scale (slice_index p.1 element)) (zip schema.columns set.columns)) [] k (omega (arith, ends-width schema set element))
+    ∙ get_or-map-range_with_len (λ place. text 0 (end_at set element place)) 0 schema.arity k k [] l zero-on
+
+pub word_cell_at : (schema : Schema) (set : SetShape) (element k : ℕ) (column : Column) (words : List ℕ) → schema.arity ≤ k → k - schema.arity < length schema.columns → length set.columns ≡ length schema.columns
+    → column ≡ get_or schema.columns (k - schema.arity) column → words ≡ column_at set (k - schema.arity)
+    → get_or (element_cells schema set element) k [] ≡ text column.scale (slice_index words element)
+word_cell_at schema set element k column words l m e is of =
+    let j = k - schema.arity in
+    let there : j < length set.columns = omega arith in
+    let n : j < length (zip schema.columns set.columns) = omega (arith, length-zip schema.columns set.columns) in
+    let d : Column × List ℕ = (column, []) in
+    get_or-append_right (map (λ place. text 0 (end_at set element place)) (range_with_len 0 schema.arity)) (map (λ (p : Column × List ℕ). text p.0.scale (slice_index p.1 element)) (zip schema.columns set.columns)) schema.arity k [] (ends-width schema set element) l
+    ∙ get_or-map (λ (p : Column × List ℕ). text p.0.scale (slice_index p.1 element)) (zip schema.columns set.columns) j d [] n
+    ∙ ap (λ (p : Column × List ℕ). text p.0.scale (slice_index p.1 element)) (get_or-zip schema.columns set.columns j d m there)
+    ∙ rw (← is, ← of) refl
 
 -- the cell itself, once its separator is written
 pub after-separator : {Z : Type 0} (start now new : Vec ℕ Z) (cells : List (List ℕ)) (k : ℕ) (cell : List ℕ) → k < length cells → get_or cells k [] ≡ cell
@@ -116,26 +132,26 @@ after-separator start now new cells k cell l is w g =
     wrote start now new (line cells) (separator k) (cell ++ left_of_line (k + 1) cells) (next-cell start now cells k cell l is w) g
 
 -- the parts of a table's text
-pub table-starts : (start : Vec ℕ Global) (schema : Schema) (columns : Columns) → vec_len start + length (table_text schema columns) ≤ vec_capacity start
-    → IsWriting start start (table_text schema columns) (name_line schema.name ++ (line (headings schema.columns) ++ element_lines schema.columns columns.columns 0 (columns.count - 0)))
+pub table-starts : (start : Vec ℕ Global) (schema : Schema) (set : SetShape) → vec_len start + length (table_text schema set) ≤ vec_capacity start
+    → IsWriting start start (table_text schema set) (name_line schema.name ++ (line (headings schema) ++ element_lines schema set 0 (set.count - 0)))
 unfolding table_text
-table-starts start schema columns fits =
-    let n : columns.count - 0 ≡ columns.count = omega arith in
-    rw n (left-is start start (table_text schema columns) _ _ (starts start (table_text schema columns) fits)
-    (append_assoc (name_line schema.name) (line (headings schema.columns)) (element_lines schema.columns columns.columns 0 columns.count)))
+table-starts start schema set fits =
+    let n : set.count - 0 ≡ set.count = omega arith in
+    rw n (left-is start start (table_text schema set) _ _ (starts start (table_text schema set) fits)
+    (append_assoc (name_line schema.name) (line (headings schema)) (element_lines schema set 0 set.count)))
 
-pub after-header : (start named headed : Vec ℕ Global) (schema : Schema) (columns : Columns) → vec_len start + length (table_text schema columns) ≤ vec_capacity start
-    → Grows start named (name_line schema.name) → Grows named headed (line (headings schema.columns))
-    → IsWriting start headed (table_text schema columns) (element_lines schema.columns columns.columns 0 (columns.count - 0))
-after-header start named headed schema columns fits g h =
-    wrote start named headed (table_text schema columns) (line (headings schema.columns)) _
-    (wrote start start named (table_text schema columns) (name_line schema.name) _ (table-starts start schema columns fits) g) h
+pub after-header : (start named headed : Vec ℕ Global) (schema : Schema) (set : SetShape) → vec_len start + length (table_text schema set) ≤ vec_capacity start
+    → Grows start named (name_line schema.name) → Grows named headed (line (headings schema))
+    → IsWriting start headed (table_text schema set) (element_lines schema set 0 (set.count - 0))
+after-header start named headed schema set fits g h =
+    wrote start named headed (table_text schema set) (line (headings schema)) _
+    (wrote start start named (table_text schema set) (name_line schema.name) _ (table-starts start schema set fits) g) h
 
-pub next-element : (start now : Vec ℕ Global) (schema : Schema) (columns : Columns) (element : ℕ) → element < columns.count
-    → IsWriting start now (table_text schema columns) (element_lines schema.columns columns.columns element (columns.count - element))
-    → IsWriting start now (table_text schema columns)
-    (line (element_cells schema.columns columns.columns element) ++ element_lines schema.columns columns.columns (element + 1) (columns.count - (element + 1)))
-next-element start now schema columns element l w = left-is start now (table_text schema columns) _ _ w (element-more schema.columns columns.columns element columns.count l)
+pub next-element : (start now : Vec ℕ Global) (schema : Schema) (set : SetShape) (element : ℕ) → element < set.count
+    → IsWriting start now (table_text schema set) (element_lines schema set element (set.count - element))
+    → IsWriting start now (table_text schema set)
+    (line (element_cells schema set element) ++ element_lines schema set (element + 1) (set.count - (element + 1)))
+next-element start now schema set element l w = left-is start now (table_text schema set) _ _ w (element-more schema set element set.count l)
 
 -- the same, in lengths
 pub length-more : (k : ℕ) (cells : List (List ℕ)) (cell : List ℕ) → k < length cells → get_or cells k [] ≡ cell
@@ -147,26 +163,22 @@ length-more k cells cell l is =
 pub length-end : (k : ℕ) (cells : List (List ℕ)) → length cells ≤ k → k ≤ length cells → length (left_of_line k cells) ≡ 1
 length-end k cells l m = ap length (line-ends k cells l m)
 
--- a column that is there is as all are
-pub column-is : (P : Column → Type 0) (columns : List Column) (k : ℕ) (column : Column) → All P columns → k < length columns → column ≡ get_or columns k column → P column
-column-is P columns k column all l is = subst P (sym is) (all k column l)
-
 -- the length of a table's text, and of the lines of its elements
-pub length-table : (schema : Schema) (columns : Columns)
-    → length (table_text schema columns) ≡ 5 + length schema.name + length (line (headings schema.columns)) + length (element_lines schema.columns columns.columns 0 (columns.count - 0))
+pub length-table : (schema : Schema) (set : SetShape)
+    → length (table_text schema set) ≡ 5 + length schema.name + length (line (headings schema)) + length (element_lines schema set 0 (set.count - 0))
 unfolding table_text
-length-table schema columns =
-    let n : columns.count - 0 ≡ columns.count = omega arith in
-    let lines = element_lines schema.columns columns.columns 0 columns.count in
-    let header = line (headings schema.columns) in
+length-table schema set =
+    let n : set.count - 0 ≡ set.count = omega arith in
+    let lines = element_lines schema set 0 set.count in
+    let header = line (headings schema) in
     let parts : length ((name_line schema.name ++ header) ++ lines) ≡ (length (name_line schema.name) + length header) + length lines =
     length-append (name_line schema.name ++ header) lines ∙ ap (λ m. m + length lines) (length-append (name_line schema.name) header) in
     let name : length (name_line schema.name) ≡ 5 + length schema.name = ap (λ m. suc (suc (suc (suc m)))) (length-append schema.name (line_feed ∷ [])) ∙ omega arith in
     rw n (omega arith)
 
-pub length-element : (schema : Schema) (columns : Columns) (element : ℕ) → element < columns.count
-    → length (element_lines schema.columns columns.columns element (columns.count - element))
-    ≡ length (line (element_cells schema.columns columns.columns element)) + length (element_lines schema.columns columns.columns (element + 1) (columns.count - (element + 1)))
-length-element schema columns element l =
-    ap length (element-more schema.columns columns.columns element columns.count l)
-    ∙ length-append (line (element_cells schema.columns columns.columns element)) (element_lines schema.columns columns.columns (element + 1) (columns.count - (element + 1)))
+pub length-element : (schema : Schema) (set : SetShape) (element : ℕ) → element < set.count
+    → length (element_lines schema set element (set.count - element))
+    ≡ length (line (element_cells schema set element)) + length (element_lines schema set (element + 1) (set.count - (element + 1)))
+length-element schema set element l =
+    ap length (element-more schema set element set.count l)
+    ∙ length-append (line (element_cells schema set element)) (element_lines schema set (element + 1) (set.count - (element + 1)))

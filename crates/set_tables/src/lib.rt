@@ -1,5 +1,5 @@
-//! The tables of sets: a schema, the columns of words that a CSV table of that schema states, and the
-//! text of a set's table.
+//! The tables of sets: a schema, the set that a CSV table of that schema states, and the text of a set's
+//! table.
 #![tactic(auto)]
 
 mod reading;
@@ -8,7 +8,7 @@ mod schema;
 mod writing;
 
 pub use reading::{TableFault, read_table};
-pub use schema::{Column, Columns, Schema};
+pub use schema::{Column, Schema};
 pub use writing::{text_len, write_table};
 
 #[cfg(test)]

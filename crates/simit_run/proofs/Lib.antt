@@ -1,3 +1,4 @@
+pub mod Assigned
 pub mod Blocks
 pub mod Lexing
 pub mod LexingLaw

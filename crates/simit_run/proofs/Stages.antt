@@ -1,15 +1,14 @@
 -- How stages follow one another.
 use Rattle.std.proofs.Common.{◌≡◌, ℕ, ◌≤◌, ◌<◌, ◌^◌, List, [], ◌∷◌, length, get_or, Option, None, Some, Result, Ok, Err, refl, arith}
-use Rattle.std.proofs.lemmas.List.{length-map}
 use Rattle.std.specs.Option.{ok_or}
 use Rattle.simit_io.specs.Inputs.{Rose}
 use Rattle.std.specs.Prelude.{IfSome, Contains, All}
 use Rattle.std.proofs.lemmas.List.Elements.{All-map, Contains-append_left, Contains-append_right}
 use mathlib.Core.Logic.{inl, inr}
 use Rattle.simit_io.specs.Inputs.{Files}
-use Rattle.set_tables.specs.Table.{table_columns}
+use Rattle.hypergraph.specs.SetShape.{SetShape}
+use Rattle.set_tables.specs.Table.{table_set}
 use Rattle.set_tables.specs.declared.schema.Column.{Column}
-use Rattle.set_tables.specs.declared.schema.Columns.{Columns}
 use Rattle.simit_run.specs.Answer.{◌>>=◌, Command, command_of, file_stage, first_answer, reads, output_of, program_stage, reads_after, reads_of, run_stage, schema_of, table_stage}
 use Rattle.simit_run.specs.Meaning.{AreOver}
 use Rattle.simit_run.specs.Reading.{program_of}
@@ -64,14 +63,14 @@ pub table_stops : (told : Option Files) (rose : Type 0) (name : List ℕ) (progr
     → Stops told rose (table_stage name program) (λ files. place.Table ∷ []) stop
 unfolding table_stage
 table_stops told rose name program stop h =
-    stops_first told rose rose (λ files. file_stage place.Table (files name)) (λ files bytes. ok_or (table_columns (schema_of program) bytes) (Other refusal.Table)) (λ files. place.Table ∷ []) (λ files. place.Table ∷ []) stop (λ r. r) (λ files p w. w) h
+    stops_first told rose rose (λ files. file_stage place.Table (files name)) (λ files bytes. ok_or (table_set (schema_of program) None 0 bytes) (Other refusal.Table)) (λ files. place.Table ∷ []) (λ files. place.Table ∷ []) stop (λ r. r) (λ files p w. w) h
 
 -- ---- the whole command
 
 module _ (told : Option Files) (before mid now : ℕ) (command : Command) where
   -- the table's stage behind the program's
   abbrev behind : Files → Program → Result (List ℕ) Stop
-  behind files program = table_stage command.table program files >>= λ columns. Ok (output_of program columns)
+  behind files program = table_stage command.table program files >>= λ set. Ok (output_of program set)
 
   pub command_stops_first : (stop : Stop) → mid ≤ now → Stops told (Rose before mid) (program_stage command.program) (λ files. place.Program ∷ []) stop
       → Stops told (Rose before now) (run_stage command) (reads_of (Some command)) stop
@@ -89,16 +88,16 @@ module _ (told : Option Files) (before mid now : ℕ) (command : Command) where
   unfolding run_stage
   command_stops_second program stop le first h =
       stops_second told (Rose mid now) (Rose before now) (program_stage command.program) behind (λ files. place.Table ∷ []) (reads_of (Some command)) program stop (λ r. omega arith) first (λ files p e w. rw e (Contains-append_right (place.Program ∷ []) (place.Table ∷ []) p w))
-      (stops_first told (Rose mid now) (Rose mid now) (table_stage command.table program) (λ files columns. Ok (output_of program columns)) (λ files. place.Table ∷ []) (λ files. place.Table ∷ []) stop (λ r. r) (λ files p w. w) h)
+      (stops_first told (Rose mid now) (Rose mid now) (table_stage command.table program) (λ files set. Ok (output_of program set)) (λ files. place.Table ∷ []) (λ files. place.Table ∷ []) stop (λ r. r) (λ files p w. w) h)
 
-  pub command_gives : (program : Program) (columns : Columns) → IfSome told (λ files. program_stage command.program files ≡ Ok program) → IfSome told (λ files. table_stage command.table program files ≡ Ok columns)
-      → IfSome told (λ files. run_stage command files ≡ Ok (output_of program columns))
+  pub command_gives : (program : Program) (set : SetShape) → IfSome told (λ files. program_stage command.program files ≡ Ok program) → IfSome told (λ files. table_stage command.table program files ≡ Ok set)
+      → IfSome told (λ files. run_stage command files ≡ Ok (output_of program set))
   unfolding run_stage
-  command_gives program columns first second =
-      gives_both told (program_stage command.program) behind program (output_of program columns) first
-      (gives_both told (table_stage command.table program) (λ files columns. Ok (output_of program columns)) columns (output_of program columns) second (same told))
+  command_gives program set first second =
+      gives_both told (program_stage command.program) behind program (output_of program set) first
+      (gives_both told (table_stage command.table program) (λ files set. Ok (output_of program set)) set (output_of program set) second (same told))
     where
-      same : (told : Option Files) → IfSome told (λ files. ◌≡◌ {A = Result (List ℕ) Stop} (Ok (output_of program columns)) (Ok (output_of program columns)))
+      same : (told : Option Files) → IfSome told (λ files. ◌≡◌ {A = Result (List ℕ) Stop} (Ok (output_of program set)) (Ok (output_of program set)))
       same None = tt
       same (Some files) = refl
 
@@ -138,13 +137,13 @@ unfolding program_stage
 program_refused None name bytes h e = tt
 program_refused (Some files) name bytes h e = rw (h, e) refl
 
-pub table_given : (told : Option Files) (name bytes : List ℕ) (program : Program) (columns : Columns) → IfSome told (λ files. file_stage place.Table (files name) ≡ Ok bytes) → table_columns (schema_of program) bytes ≡ Some columns
-    → IfSome told (λ files. table_stage name program files ≡ Ok columns)
+pub table_given : (told : Option Files) (name bytes : List ℕ) (program : Program) (set : SetShape) → IfSome told (λ files. file_stage place.Table (files name) ≡ Ok bytes) → table_set (schema_of program) None 0 bytes ≡ Some set
+    → IfSome told (λ files. table_stage name program files ≡ Ok set)
 unfolding table_stage
-table_given None name bytes program columns h e = tt
-table_given (Some files) name bytes program columns h e = rw (h, e) refl
+table_given None name bytes program set h e = tt
+table_given (Some files) name bytes program set h e = rw (h, e) refl
 
-pub table_refused : (told : Option Files) (name bytes : List ℕ) (program : Program) → IfSome told (λ files. file_stage place.Table (files name) ≡ Ok bytes) → table_columns (schema_of program) bytes ≡ None
+pub table_refused : (told : Option Files) (name bytes : List ℕ) (program : Program) → IfSome told (λ files. file_stage place.Table (files name) ≡ Ok bytes) → table_set (schema_of program) None 0 bytes ≡ None
     → IfSome told (λ files. table_stage name program files ≡ Err (Other refusal.Table))
 unfolding table_stage
 table_refused None name bytes program h e = tt
@@ -155,11 +154,11 @@ table_refused (Some files) name bytes program h e = rw (h, e) refl
 pub is_runnable : (program : Program) (size : ℕ) → size ≤ 2 ^ 20 → length program.fields ≤ 32 → All (λ name. length name ≤ size) program.fields → length program.set ≤ size → AreOver (length program.fields) program.assignments → IsRunnable program
 is_runnable program size few fields sizes set places = record {
   schema = record {
-    no_endpoints = refl;
+    few_ends = omega arith;
     whole_numbers = All-map (λ (c : Column). c.scale ≡ 0) column_of program.fields (λ k d h. refl);
-    few_columns = omega (arith, length-map program.fields column_of);
     short_name = omega arith;
     short_headings = All-map (λ (c : Column). length c.heading < 2 ^ 32) column_of program.fields (λ k d h. let short : length (get_or program.fields k d) ≤ size = sizes k d h in omega arith);
   };
+  few_columns = omega arith;
   places = places;
 }

@@ -3,9 +3,9 @@ use Rattle.std.specs.Prelude.{ℕ, Bool, false, not, ◌&&◌, ◌==◌, nat_lt,
 use Rattle.std.specs.Option.{ok_or}
 use Rattle.std.specs.Str.{bytes_eq}
 use Rattle.simit_io.specs.Inputs.{Files}
-use Rattle.set_tables.specs.Table.{table_columns}
+use Rattle.hypergraph.specs.SetShape.{SetShape}
+use Rattle.set_tables.specs.Table.{table_set}
 use Rattle.set_tables.specs.Output.{table_text}
-use Rattle.set_tables.specs.declared.schema.Columns.{Columns}
 use Rattle.set_tables.specs.declared.schema.Schema.{Schema}
 use Rattle.simit_run.specs.Meaning.{after_all}
 use Rattle.simit_run.specs.Reading.{program_of}
@@ -60,22 +60,18 @@ program_stage name files = file_stage place.Program (files name) >>= λ source. 
 abbrev pub schema_of : Program → Schema
 schema_of program = record { name = program.set; arity = 0; columns = map (λ field. record { heading = field; scale = 0 }) program.fields }
 
--- the columns that the file of a name states
-unfoldable pub table_stage : List ℕ → Program → Files → Result Columns Stop
-table_stage name program files = file_stage place.Table (files name) >>= λ bytes. ok_or (table_columns (schema_of program) bytes) (Other refusal.Table)
-
--- the columns after the program's assignments
-abbrev pub columns_after : Program → Columns → Columns
-columns_after program columns = record { count = columns.count; columns = after_all columns.count columns.columns program.assignments }
+-- the set that the file of a name states
+unfoldable pub table_stage : List ℕ → Program → Files → Result SetShape Stop
+table_stage name program files = file_stage place.Table (files name) >>= λ bytes. ok_or (table_set (schema_of program) None 0 bytes) (Other refusal.Table)
 
 -- the text that is put out: the set's table after the program's assignments
-unfoldable pub output_of : Program → Columns → List ℕ
-output_of program columns = table_text (schema_of program) (columns_after program columns)
+unfoldable pub output_of : Program → SetShape → List ℕ
+output_of program set = table_text (schema_of program) (after_all set program.assignments)
 
 -- the output, from the files that a command names
 unfoldable pub run_stage : Command → Files → Result (List ℕ) Stop
 run_stage command files =
-    program_stage command.program files >>= λ program. table_stage command.table program files >>= λ columns. Ok (output_of program columns)
+    program_stage command.program files >>= λ program. table_stage command.table program files >>= λ set. Ok (output_of program set)
 
 -- the program's answer: its output, or why there is none
 unfoldable pub first_answer : List (List ℕ) → Files → Result (List ℕ) Stop

@@ -1,8 +1,9 @@
--- What a program's assignments do to the columns of its set. A column is the list of the words that
--- the elements have in one field.
-use Rattle.std.specs.Prelude.{ℕ, ◌++◌, ◌<◌, ◌≡◌, if◌then◌else◌, List, [], map, fold, length, slice_index, slice_index_or, slice_set, All}
+-- What a program's assignments do to a set. A column is the list of the words that its elements have in
+-- one field.
+use Rattle.std.specs.Prelude.{ℕ, ◌++◌, ◌<◌, ◌≡◌, if◌then◌else◌, List, [], map, fold, length, slice_index, slice_index_or, All}
 use Rattle.std.specs.List.{range_with_len}
 use Rattle.ring_words.specs.Word.{add, sub, mul}
+use Rattle.hypergraph.specs.SetShape.{SetShape, with_column}
 use Rattle.simit_run.specs.declared.program.Assignment.{Assignment}
 use Rattle.simit_run.specs.declared.program.Term.{Term}
 
@@ -27,13 +28,13 @@ sum_at columns element terms = fold (with_term columns element) 0 terms
 abbrev pub right_side : ℕ → List (List ℕ) → List Term → List ℕ
 right_side count columns terms = map (λ element. sum_at columns element terms) (range_with_len 0 count)
 
--- the columns after an assignment: its whole right side takes the place of its target
-unfoldable pub assigned : ℕ → List (List ℕ) → Assignment → List (List ℕ)
-assigned count columns assignment = slice_set columns assignment.target (right_side count columns assignment.terms)
+-- the set after an assignment: its whole right side takes the place of its target
+unfoldable pub assigned : SetShape → Assignment → SetShape
+assigned set assignment = with_column set assignment.target (right_side set.count set.columns assignment.terms)
 
--- the columns after the assignments, one after the other
-unfoldable pub after_all : ℕ → List (List ℕ) → List Assignment → List (List ℕ)
-after_all count columns assignments = fold (assigned count) columns assignments
+-- the set after the assignments, one after the other
+unfoldable pub after_all : SetShape → List Assignment → SetShape
+after_all set assignments = fold assigned set assignments
 
 -- each field of a term is one of the columns
 abbrev pub IsTermOver : ℕ → Term → Type 0
@@ -51,6 +52,8 @@ IsAssignmentOver columns assignment = (assignment.target < columns) × AreTermsO
 abbrev pub AreOver : ℕ → List Assignment → Type 0
 AreOver columns assignments = All (IsAssignmentOver columns) assignments
 
--- each column has a word for each element
-abbrev pub HaveWords : ℕ → List (List ℕ) → Type 0
-HaveWords count columns = All (λ column. length column ≡ count) columns
+-- two sets have as many elements, endpoints and columns
+pub record SameShape (old new : SetShape) : Type 0 where
+  pub count : new.count ≡ old.count
+  pub arity : new.arity ≡ old.arity
+  pub columns : length new.columns ≡ length old.columns

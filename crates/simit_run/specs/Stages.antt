@@ -1,6 +1,7 @@
 -- What a stage of the answer shows of itself.
-use Rattle.std.specs.Prelude.{◌≡◌, ⊤, ◌⊎◌, List, Option, IfSome, MatchOption, Result, Ok, Err, Contains, length}
+use Rattle.std.specs.Prelude.{◌≡◌, ◌≤◌, ⊤, ◌⊎◌, List, Option, IfSome, MatchOption, Result, Ok, Err, Contains, length}
 use Rattle.simit_io.specs.Inputs.{Files}
+use Rattle.hypergraph.specs.SetShape.{most_columns}
 use Rattle.set_tables.specs.Schema.{IsSchema}
 use Rattle.simit_run.specs.Answer.{schema_of}
 use Rattle.simit_run.specs.Meaning.{AreOver}
@@ -26,4 +27,5 @@ Shows view told rose stage reads (Err stop) = Stops told rose stage reads stop
 -- a program whose set's table can be read and whose assignments can be run
 pub record IsRunnable (program : Program) : Type 0 where
   pub schema : IsSchema (schema_of program)
+  pub few_columns : length program.fields ≤ most_columns
   pub places : AreOver (length program.fields) program.assignments

@@ -3,6 +3,7 @@
 
 ghost use Rattle.std.specs.Prelude.{◌≡◌, ◌≤◌, [], ◌∷◌, IfOk, None, Err, map, string_bytes, length};
 ghost use Rattle.simit_io.specs.Inputs.{Rose};
+ghost use Rattle.hypergraph.specs.SetShape.{most_columns};
 ghost use Rattle.set_tables.specs.Schema.{Fits, IsSchema};
 ghost use Rattle.simit_run.specs.Answer as spec;
 ghost use Rattle.simit_run.specs.Command.{shown};
@@ -16,8 +17,9 @@ use crate::parser::parse;
 use crate::parts::ParseFault;
 use crate::program::Program;
 use crate::stop::{Place, Refusal, Stop};
+use hypergraph::{SetData, Sets};
 use ring_words::{L, Text};
-use set_tables::{Column, Columns, Schema, TableFault, read_table, text_len, write_table};
+use set_tables::{Column, Schema, TableFault, read_table, text_len, write_table};
 use simit_io::{Inputs, ReadAll, read_all};
 use std::alloc::{AllocError, Global};
 
@@ -93,27 +95,42 @@ fn schema_of(alloc: Global, program: &Program) -> Result<Schema, AllocError>
     })
 }
 
-/// The columns that the file of a name states.
-fn read_columns<I: Inputs>(
+/// The set that the file of a name states.
+fn read_set<I: Inputs>(
     alloc: Global,
     inputs: &mut I,
     name: &str,
     program: &Program,
     schema: &Schema,
-) -> Result<Columns, Stop>
+) -> Result<SetData, Stop>
     requires schema { schema.now ≡ spec.schema_of program.now }
     requires readable { IsSchema schema.now }
-    ensures shows { Shows (λ columns. columns) (I.holds inputs.old) (Rose (I.faults inputs.old) (I.faults inputs.new))
+    requires few_columns { length schema.now.columns ≤ most_columns }
+    requires no_ends { schema.now.arity ≡ 0 }
+    ensures shows { Shows (λ set. set) (I.holds inputs.old) (Rose (I.faults inputs.old) (I.faults inputs.new))
         (spec.table_stage name.now program.now) (λ files. place.Table ∷ []) result }
     ensures fits { IfOk result (Fits schema.now) }
+    ensures over { IfOk result (λ set. set.over ≡ None) }
     ensures same_files { I.holds inputs.new ≡ I.holds inputs.old }
     ensures counted { I.faults inputs.old ≤ I.faults inputs.new }
 {
     let bytes = read_file(alloc, inputs, name, Place::Table)?;
-    match read_table(alloc, schema, &bytes) {
-        Ok(columns) => Ok(columns),
+    match read_table(alloc, schema, None, 0, &bytes) {
+        Ok(set) => Ok(set),
         Err(TableFault::Bad) => Err(Stop::Other(Refusal::Table)),
         Err(TableFault::Memory) => Err(Stop::Memory),
+    }
+}
+
+/// The one set, which has no endpoints.
+fn only(alloc: Global, set: SetData) -> Result<Sets, AllocError>
+    requires over { set.over ≡ None }
+    requires arity { set.arity ≡ 0 }
+    ensures { IfOk result (λ sets. sets ≡ set ∷ []) }
+{
+    match Sets::of(vec![in alloc; set]?) {
+        Ok(sets) => Ok(sets),
+        Err(_) => unreachable!(),
     }
 }
 
@@ -122,26 +139,18 @@ fn output_of(
     alloc: Global,
     program: &Program,
     schema: &Schema,
-    columns: Columns,
+    set: SetData,
 ) -> Result<Vec<u8>, AllocError>
     requires runnable { IsRunnable program.now }
     requires schema { schema.now ≡ spec.schema_of program.now }
-    requires fits { Fits schema.now columns }
-    ensures { IfOk result (λ text. text.items ≡ spec.output_of program.now columns) }
+    requires fits { Fits schema.now set }
+    requires over { set.over ≡ None }
+    ensures { IfOk result (λ text. text.items ≡ spec.output_of program.now set) }
 {
-    let Columns { count, columns } = columns;
-    let after = run_assignments(
-        alloc,
-        count as usize,
-        columns.into_vec(),
-        program.assignments.items(),
-    )?;
-    let columns = Columns {
-        count,
-        columns: L::of(after),
-    };
-    let mut text = Vec::with_capacity(alloc, text_len(schema, &columns))?;
-    write_table(schema, &columns, &mut text);
+    let mut sets = only(alloc, set)?;
+    run_assignments(alloc, &mut sets, 0, program.assignments.items())?;
+    let mut text = Vec::with_capacity(alloc, text_len(schema, &sets, 0))?;
+    write_table(schema, &sets, 0, &mut text);
     Ok(text)
 }
 
@@ -157,8 +166,8 @@ fn run_command<I: Inputs>(
 {
     let program = read_program(alloc, inputs, command.program)?;
     let schema = schema_of(alloc, &program).map_err(|_| Stop::Memory)?;
-    let columns = read_columns(alloc, inputs, command.table, &program, &schema)?;
-    let text = output_of(alloc, &program, &schema, columns).map_err(|_| Stop::Memory)?;
+    let set = read_set(alloc, inputs, command.table, &program, &schema)?;
+    let text = output_of(alloc, &program, &schema, set).map_err(|_| Stop::Memory)?;
     Ok(text)
 }
 

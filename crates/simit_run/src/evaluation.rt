@@ -1,14 +1,15 @@
-//! Runs assignments over columns. A right side is computed block by block, so that the words of
+//! Runs assignments over the columns of a set. A right side is computed block by block, so that the words of
 //! a block are at hand for all of its terms, and takes its target's place when it is whole.
 
-ghost use Rattle.std.specs.Prelude.{◌≡◌, ℕ, ◌+◌, ◌-◌, ◌*◌, ◌<◌, ◌≤◌, ◌^◌, [], ◌∷◌, length, map, fold, slice_index, slice_index_or, EachIndex, All, IfOk, OnOk, vec_len, if◌then◌else◌};
+ghost use Rattle.std.specs.Prelude.{◌≡◌, ◌+◌, ◌<◌, ◌≤◌, [], length, fold, slice_index, slice_set, EachIndex, All, OnOk};
 ghost use Rattle.ring_words.specs.Word as words;
-ghost use Rattle.simit_run.specs.Meaning.{term_at, sum_at, right_side, after_all, AreTermsOver, AreOver, HaveWords};
+ghost use Rattle.hypergraph.specs.Sets.{set_at};
+ghost use Rattle.simit_run.specs.Meaning.{term_at, sum_at, right_side, after_all, AreTermsOver, AreOver, SameShape};
 
 use crate::program::{Assignment, Term};
+use hypergraph::Sets;
 use ring_words::{L, add, mul, sub};
 use std::alloc::{AllocError, Global};
-use std::mem;
 
 /// How many elements are computed at a time.
 const BLOCK: usize = 512;
@@ -52,34 +53,37 @@ fn sub_into(into: &mut [u64], by: &[u64])
     }
 }
 
-/// The products of a term at the elements from `from` on.
-fn term_products(columns: &[L<u64>], term: &Term, from: usize, products: &mut [u64])
-    requires fields { All (λ field. field < length columns.now) term.now.fields }
-    requires words { All (λ column. from + length products.old ≤ length column) columns.now }
-    ensures { EachIndex products.old (λ k. slice_index products.new k ≡ term_at columns.now (from + k) term.now) }
+/// The products of a term at the elements of a set from `from` on.
+fn term_products(sets: &Sets, set: u32, term: &Term, from: usize, products: &mut [u64])
+    requires set { set < length sets.now }
+    requires fields { All (λ field. field < length (set_at sets.now set).columns) term.now.fields }
+    requires within { from + length products.old ≤ (set_at sets.now set).count }
+    ensures { EachIndex products.old (λ k. slice_index products.new k ≡ term_at (set_at sets.now set).columns (from + k) term.now) }
 {
     products.fill(product_of(term.numbers.items()));
     for field in term.fields.items() {
-        mul_into(products, &columns[*field as usize].items()[from..]);
+        mul_into(products, &sets.column(set, *field)[from..]);
     }
 }
 
 /// The sums at the elements from `from` on; `products` is room for as many words as `totals` has.
 fn block_sums(
-    columns: &[L<u64>],
+    sets: &Sets,
+    set: u32,
     terms: &[Term],
     from: usize,
     totals: &mut [u64],
     products: &mut [u64],
 )
-    requires fields { AreTermsOver (length columns.now) terms.now }
-    requires words { All (λ column. from + length totals.old ≤ length column) columns.now }
+    requires set { set < length sets.now }
+    requires fields { AreTermsOver (length (set_at sets.now set).columns) terms.now }
+    requires within { from + length totals.old ≤ (set_at sets.now set).count }
     requires room { length products.old ≡ length totals.old }
-    ensures { EachIndex totals.old (λ k. slice_index totals.new k ≡ sum_at columns.now (from + k) terms.now) }
+    ensures { EachIndex totals.old (λ k. slice_index totals.new k ≡ sum_at (set_at sets.now set).columns (from + k) terms.now) }
 {
     totals.fill(0);
     for term in terms {
-        term_products(columns, term, from, products);
+        term_products(sets, set, term, from, products);
         if term.minus {
             sub_into(totals, products);
         } else {
@@ -89,24 +93,21 @@ fn block_sums(
 }
 
 /// Appends a right side's words to the empty vector that is handed in.
-fn compute(
-    columns: &[L<u64>],
-    terms: &[Term],
-    count: usize,
-    right: &mut Vec<u64>,
-) -> Result<(), AllocError>
-    requires fields { AreTermsOver (length columns.now) terms.now }
-    requires words { HaveWords count columns.now }
+fn compute(sets: &Sets, set: u32, terms: &[Term], right: &mut Vec<u64>) -> Result<(), AllocError>
+    requires set { set < length sets.now }
+    requires fields { AreTermsOver (length (set_at sets.now set).columns) terms.now }
     requires empty { right.old.items ≡ [] }
-    ensures { OnOk result (right.new.items ≡ right_side count columns.now terms.now) }
+    ensures { OnOk result (right.new.items ≡ right_side (set_at sets.now set).count (set_at sets.now set).columns terms.now) }
 {
     let mut totals = [0u64; BLOCK];
     let mut products = [0u64; BLOCK];
+    let count = sets.count(set) as usize;
     let mut done = 0;
     while done < count {
         let size = BLOCK.min(count - done);
         block_sums(
-            columns,
+            sets,
+            set,
             terms,
             done,
             &mut totals[..size],
@@ -118,25 +119,24 @@ fn compute(
     Ok(())
 }
 
-/// The columns of `count` words each after the assignments.
+/// Runs assignments over a set, from first to last.
 pub fn run_assignments(
     alloc: Global,
-    count: usize,
-    mut columns: Vec<L<u64>>,
+    sets: &mut Sets,
+    set: u32,
     assignments: &[Assignment],
-) -> Result<Vec<L<u64>>, AllocError>
-    requires fields { AreOver (vec_len columns) assignments.now }
-    requires words { HaveWords count columns.items }
-    ensures after { IfOk result (λ after. after.items ≡ after_all count columns.items assignments.now) }
-    ensures as_many { IfOk result (λ after. length after.items ≡ vec_len columns) }
-    ensures words { IfOk result (λ after. HaveWords count after.items) }
+) -> Result<(), AllocError>
+    requires set { set < length sets.old }
+    requires fields { AreOver (length (set_at sets.old set).columns) assignments.now }
+    ensures after { OnOk result (sets.new ≡ slice_set sets.old set (after_all (set_at sets.old set) assignments.now)) }
+    ensures shape { OnOk result (SameShape (set_at sets.old set) (set_at sets.new set)) }
 {
-    let mut right = Vec::with_capacity(alloc, count)?;
+    let mut right = Vec::with_capacity(alloc, sets.count(set) as usize)?;
     for assignment in assignments {
-        compute(&columns, assignment.terms.items(), count, &mut right)?;
-        let old = mem::replace(&mut columns[assignment.target as usize], L::of(right));
+        compute(sets, set, assignment.terms.items(), &mut right)?;
+        let old = sets.set_column(set, assignment.target, L::of(right));
         right = old.into_vec();
         right.clear();
     }
-    Ok(columns)
+    Ok(())
 }

@@ -4,4 +4,4 @@ use Rattle.set_tables.specs.Schema.{headings}
 use Rattle.set_tables.proofs.reading.has_header.Given as goal
 
 abbrev pub invariant-loop-k : goal.invariant-loop-k
-invariant-loop-k l = (j : ℕ) → j < l.k → without_spaces (get_or l.records.row j []) ≡ get_or (headings l.columns) j []
+invariant-loop-k l = (j : ℕ) → j < l.k → without_spaces (get_or l.records.row j []) ≡ get_or (headings l.schema) j []

@@ -1,42 +1,23 @@
-use Rattle.std.proofs.Common.{◌≡◌, ◌∙◌, ◌<◌, [], ℕ, Vec, Global, Some, None, true, get_or, length, arith, ap, sym, refl, rules}
-use Rattle.std.specs.Prelude.{is_ok}
-use Rattle.std.proofs.lemmas.List.{get_or-map, length-map, map-set}
+use Rattle.std.proofs.Common.{◌∙◌, sym, arith}
+use Rattle.std.proofs.lemmas.Result.{err_from_is_err_and}
 use Rattle.set_tables.specs.Reading.{lists_of}
-use Rattle.set_tables.specs.Table.{cell_words}
-use Rattle.set_tables.proofs.RowsRead.{cell-word-at, grows-end, grows-start, grows-step, row-bad}
+use Rattle.set_tables.proofs.ElementsRead.{row-fault, row-reads, row-width-bad}
 use Rattle.set_tables.proofs.reading.read_row.Goals as goal
 
-pub loop-k-init : goal.loop-k-init
-loop-k-init c = grows-start _ _
+pub returns-then-width-width_of : goal.returns-then-width-width_of
+returns-then-width-width_of c =
+    row-width-bad c.args.schema.now c.args.bound c.args.records.now.row (λ same. c.if-width-width_of.true (c.width.ensures ∙ same ∙ sym c.width_of.ensures.value))
 
-pub loop-k-preserved : goal.loop-k-preserved
-loop-k-preserved c =
-    let items = c.loop-k.words.items in
-    let k = c.loop-k.k in
-    let inside = λ (v : Vec ℕ Global). v.items in
-    let good : is_ok c.push.result ≡ true = search rules in
-    let many : length items ≡ length c.args.words.now.items = sym (length-map items inside) ∙ c.loop-k.invariant.as_many ∙ length-map c.args.words.now.items inside in
-    let in' : k < length items = omega (arith, c.requires.as_many) in
-    let at : get_or (lists_of items) k [] ≡ c.index_mut.result.now.items = get_or-map inside items k c.index_mut.result.now [] in' ∙ ap inside (sym c.index_mut.ensures.value) in
-    let word : get_or (cell_words c.args.columns.now c.args.records.now.row) k None ≡ Some c.in-Ok.word =
-    cell-word-at c.args.columns.now c.args.records.now.row k c.index-columns-k.result c.cell.result.now (omega arith) c.loop-k-test.true c.index-columns-k.is c.cell.ensures
-    ∙ rw (← c.read_cell.ensures, c.in-Ok.is) refl in
-    rw (map-set inside items k c.push.new.self)
-    (grows-step (lists_of c.args.words.now.items) (lists_of items) (cell_words c.args.columns.now c.args.records.now.row) k c.in-Ok.word c.push.new.self.items
-    c.loop-k.invariant (omega (arith, length-map c.args.words.now.items inside, c.requires.as_many)) word (rw (good, ← at) at c.push.ensures.items))
-
-pub index_mut-requires : goal.index_mut-requires
-index_mut-requires c =
-    let many = c.loop-k.invariant.as_many in
-    omega (arith, length-map c.loop-k.words.items (λ (v : Vec ℕ Global). v.items), length-map c.args.words.now.items (λ (v : Vec ℕ Global). v.items), c.loop-k.words.ok.0, c.requires.as_many)
-
-pub returns-in_default : goal.returns-in_default
-returns-in_default c =
-    row-bad c.args.columns.now c.args.records.now.row c.loop-k.k (omega arith) c.loop-k-test.true
-    (cell-word-at c.args.columns.now c.args.records.now.row c.loop-k.k c.index-columns-k.result c.cell.result.now (omega arith) c.loop-k-test.true c.index-columns-k.is c.cell.ensures
-    ∙ rw (← c.read_cell.ensures, c.in_default.is) refl)
+pub returns-in_err-read_ends : goal.returns-in_err-read_ends
+returns-in_err-read_ends c =
+    let p = err_from_is_err_and c.from_residual.result c.from_residual.ensures.1 in
+    rw (p.1, p.2)
+    (row-fault c.args.schema.now c.args.bound c.args.records.now.row c.args.ends.now.items c.read_ends.new.ends.items c.read_ends.new.ends.items
+    (lists_of c.args.words.now.items) (lists_of c.args.words.now.items) c.in_err-read_ends.field-0.0 c.in_err-read_ends.ensures)
 
 pub returns : goal.returns
 returns c =
-    grows-end c.args.columns.now c.args.records.now.row (lists_of c.args.words.now.items) (lists_of c.loop-k.words.items) c.loop-k.k
-    (omega arith) (length-map c.args.words.now.items _ ∙ c.requires.as_many) c.loop-k-test.false c.loop-k.invariant
+    let (more, stated, grows) = rw c.in_ok-read_ends.was at c.read_ends.ensures in
+    row-reads c.args.schema.now c.args.bound c.args.records.now.row c.args.ends.now.items c.read_ends.new.ends.items more
+    (lists_of c.args.words.now.items) (lists_of c.read_words.new.words.items) c.read_words.result
+    (omega (arith, c.width.ensures, c.width_of.ensures.value)) stated grows (rw c.items.ensures at c.read_words.ensures)

@@ -1,25 +1,19 @@
-use Rattle.std.proofs.Common.{◌≡◌, ◌<◌, ◌+◌, ℕ, List, get_or, length, arith}
-use Rattle.std.specs.Prelude.{slice_index}
+use Rattle.std.proofs.Common.{arith}
+use Rattle.hypergraph.specs.Sets.{set_at}
 use Rattle.ring_words.specs.Cell.{text}
-use Rattle.set_tables.specs.Output.{element_cells, separator}
-use Rattle.set_tables.specs.declared.schema.Column.{Column}
-use Rattle.set_tables.proofs.LinesWritten.{element-cell-at, left_of_line, length-element_cells, length-end, length-more}
+use Rattle.set_tables.specs.Output.{element_cells}
+use Rattle.set_tables.proofs.Headings.{headings_width}
+use Rattle.set_tables.proofs.LinesWritten.{length-end, length-more, length_element_cells}
 use Rattle.set_tables.proofs.writing.element_len.Goals as goal
-
--- a cell's part of the line
-part : (columns : List Column) (words : List (List ℕ)) (element k : ℕ) (column : Column) (items result : List ℕ) → k < length columns → length words ≡ length columns
-    → column ≡ get_or columns k column → result ≡ get_or words k result → items ≡ result
-    → length (left_of_line k (element_cells columns words element))
-    ≡ length (separator k) + (length (text column.scale (slice_index items element)) + length (left_of_line (k + 1) (element_cells columns words element)))
-part columns words element k column items result l e is of same =
-    length-more k (element_cells columns words element) (text column.scale (slice_index items element))
-    (omega (arith, length-element_cells columns words element e))
-    (rw same (element-cell-at columns words element k column result l e is of))
 
 pub loop-k-preserved : goal.loop-k-preserved
 loop-k-preserved c =
-    let more = part c.args.columns.now c.args.words.now c.args.element c.loop-k.k c.index-columns-k.result c.items.result.now c.index-words-k.result c.loop-k-test.true c.requires.as_many
-    c.index-columns-k.is c.index-words-k.is c.items.ensures in
+    let set = set_at c.args.sets.now c.args.set in
+    let n = length_element_cells c.args.schema.now set c.args.element c.requires.fits.as_many in
+    let width = headings_width c.args.schema.now in
+    let cell = c.cell_at-scale.result in
+    let more = length-more c.loop-k.k (element_cells c.args.schema.now set c.args.element) (text cell.0 cell.1)
+    (omega (arith, c.requires.fits.same_arity, c.requires.fits.as_many)) c.cell_at-scale.ensures.cell in
     record {
       counted = omega arith;
       bound = omega arith;
@@ -27,6 +21,9 @@ loop-k-preserved c =
 
 pub returns-clause-value : goal.returns-clause-value
 returns-clause-value c =
-    let n = length-element_cells c.args.columns.now c.args.words.now c.args.element c.requires.as_many in
-    let last = length-end c.loop-k.k (element_cells c.args.columns.now c.args.words.now c.args.element) (omega arith) (omega arith) in
+    let set = set_at c.args.sets.now c.args.set in
+    let n = length_element_cells c.args.schema.now set c.args.element c.requires.fits.as_many in
+    let width = headings_width c.args.schema.now in
+    let last = length-end c.loop-k.k (element_cells c.args.schema.now set c.args.element)
+    (omega (arith, c.requires.fits.same_arity, c.requires.fits.as_many)) (omega (arith, c.requires.fits.same_arity, c.requires.fits.as_many)) in
     omega arith

@@ -1,4 +1,5 @@
 use Rattle.std.proofs.Common.{◌≡◌, ℕ, ◌+◌, ◌<◌, length, take, slice_index}
+use Rattle.hypergraph.specs.Sets.{set_at}
 use Rattle.simit_run.specs.Meaning.{sum_at}
 use Rattle.simit_run.proofs.evaluation.block_sums.Given as goal
 
@@ -7,5 +8,5 @@ abbrev pub invariant-loop-term : goal.invariant-loop-term
 invariant-loop-term l = record {
   size : length l.totals ≡ length l.fn.totals;
   room : length l.products ≡ length l.fn.totals;
-  so_far : (k : ℕ) → k < length l.fn.totals → slice_index l.totals k ≡ sum_at l.columns (l.from + k) (take l.term-index l.terms);
+  so_far : (k : ℕ) → k < length l.fn.totals → slice_index l.totals k ≡ sum_at (set_at l.sets l.set).columns (l.from + k) (take l.term-index l.terms);
 }

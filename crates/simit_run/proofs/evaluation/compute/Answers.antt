@@ -1,5 +1,6 @@
 use Rattle.std.proofs.Common.{◌≡◌, ◌++◌, length, arith}
 use Rattle.std.proofs.lemmas.Grind.{common_steps}
+use Rattle.hypergraph.specs.Sets.{set_at}
 use Rattle.simit_run.specs.Meaning.{sum_at}
 use Rattle.simit_run.proofs.Blocks.{block_grows}
 use Rattle.simit_run.proofs.evaluation.compute.Goals as goal
@@ -14,5 +15,5 @@ loop-done-preserved c =
       totals_size = grind (arith, common_steps);
       products_size = grind (arith, common_steps);
       so_far =
-          block_grows (λ e. sum_at c.args.columns.now e c.args.terms.now) c.loop-done.right.items c.extend_from_slice.new.self.items block c.loop-done.done c.min-size.result c.loop-done.invariant.so_far grown size (λ k below. c.block_sums.ensures k (grind (arith, common_steps)));
+          block_grows (λ e. sum_at (set_at c.args.sets.now c.args.set).columns e c.args.terms.now) c.loop-done.right.items c.extend_from_slice.new.self.items block c.loop-done.done c.min-size.result c.loop-done.invariant.so_far grown size (λ k below. c.block_sums.ensures k (grind (arith, common_steps)));
     }

@@ -1,4 +1,5 @@
 use Rattle.std.proofs.Common.{◌≡◌, ◌≤◌, ◌-◌, length}
+use Rattle.hypergraph.specs.Sets.{set_at}
 use Rattle.simit_run.specs.Meaning.{right_side}
 use Rattle.simit_run.proofs.evaluation.compute.Given as goal
 
@@ -8,7 +9,7 @@ invariant-loop-done l = record {
   within : l.done ≤ l.count;
   totals_size : length l.totals ≡ 512;
   products_size : length l.products ≡ 512;
-  so_far : l.right.items ≡ right_side l.done l.columns l.terms;
+  so_far : l.right.items ≡ right_side l.done (set_at l.sets l.set).columns l.terms;
 }
 
 abbrev pub decreases-loop-done : goal.decreases-loop-done

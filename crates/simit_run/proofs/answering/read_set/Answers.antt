@@ -1,11 +1,11 @@
-use Rattle.std.proofs.Common.{sym, ap, ◌∙◌}
+use Rattle.std.proofs.Common.{None, sym, ap, ◌∙◌}
 use Rattle.std.proofs.lemmas.Result.{err_from_is_err_and}
 use Rattle.simit_io.specs.Inputs.{Rose}
-use Rattle.set_tables.specs.Table.{table_columns}
+use Rattle.set_tables.specs.Table.{table_set}
 use Rattle.set_tables.specs.declared.schema.Schema.{Schema}
 use Rattle.simit_run.specs.Answer.{schema_of}
 use Rattle.simit_run.proofs.Stages.{table_stops, table_given, table_refused}
-use Rattle.simit_run.proofs.answering.read_columns.Goals as goal
+use Rattle.simit_run.proofs.answering.read_set.Goals as goal
 
 pub returns-in_err-bytes-clause-shows : goal.returns-in_err-bytes-clause-shows
 returns-in_err-bytes-clause-shows g c =
@@ -16,10 +16,10 @@ returns-in_err-bytes-clause-shows g c =
 
 pub returns-in-Ok-clause-shows : goal.returns-in-Ok-clause-shows
 returns-in-Ok-clause-shows g c =
-    let same = ap (table_columns (schema_of c.args.program.now)) (sym c.deref.ensures.value) ∙ ap (λ (s : Schema). table_columns s c.deref.result.now) (sym c.requires.schema) in
+    let same = ap (table_set (schema_of c.args.program.now) None 0) (sym c.deref.ensures.value) ∙ ap (λ (s : Schema). table_set s None 0 c.deref.result.now) (sym c.requires.schema) in
     table_given _ _ _ _ _ c.in_ok-bytes.ensures.shows (same ∙ c.in-Ok.ensures.reads)
 
 pub returns-in-Err-Bad-clause-shows : goal.returns-in-Err-Bad-clause-shows
 returns-in-Err-Bad-clause-shows g c =
-    let same = ap (table_columns (schema_of c.args.program.now)) (sym c.deref.ensures.value) ∙ ap (λ (s : Schema). table_columns s c.deref.result.now) (sym c.requires.schema) in
+    let same = ap (table_set (schema_of c.args.program.now) None 0) (sym c.deref.ensures.value) ∙ ap (λ (s : Schema). table_set s None 0 c.deref.result.now) (sym c.requires.schema) in
     table_refused _ _ _ _ c.in_ok-bytes.ensures.shows (same ∙ (rw c.in-Err-Bad.field-0-is at c.in-Err-Bad.ensures.reads))
