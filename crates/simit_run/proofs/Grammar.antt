@@ -5,9 +5,9 @@ use Rattle.std.proofs.lemmas.Bool.{eqb-true}
 use Rattle.std.proofs.lemmas.List.{append-nil, get_or-append-add}
 use Rattle.std.proofs.lemmas.List.Elements.{All-same}
 use Rattle.std.proofs.lemmas.Option.{same_Some, option_and_then_some, cond_some}
-use Rattle.simit_run.specs.declared.token.Token.{Token}
-use Rattle.simit_run.specs.declared.token.TokenKind.{TokenKind}
-use Rattle.simit_run.specs.declared.token.TokenKind.TheVariants.{Name, Number, Keyword, Symbol, End}
+use Rattle.sim_lexer.specs.declared.token.Token.{Token}
+use Rattle.sim_lexer.specs.declared.token.TokenKind.{TokenKind}
+use Rattle.sim_lexer.specs.declared.token.TokenKind.TheVariants.{Name, Number, Keyword, Symbol, End}
 use Rattle.simit_run.specs.Reading.{Read, ◌>>=◌, is_kind, starts, skip_one, skip, text_at, repeat}
 use Rattle.simit_run.specs.Grammar.{Rule, Joined, ◌⨾◌, Nothing, Each, Are, Spelt}
 

@@ -2,11 +2,11 @@
 use Rattle.std.proofs.Common.{◌≡◌, ℕ, ◌≤◌, Bool, true, false, cond, List, [], ◌∷◌, ◌++◌, length, length-append, get_or, Some, refl, sym, subst, ap, ◌∙◌, arith}
 use Rattle.std.specs.Prelude.{◌≢◌, codes}
 use Rattle.std.proofs.lemmas.List.{append-nil}
-use Rattle.simit_run.specs.declared.token.Token.{Token}
-use Rattle.simit_run.specs.declared.token.TokenKind.{TokenKind}
-use Rattle.simit_run.specs.declared.token.TokenKind.TheVariants.{Name, Number, Keyword, Symbol, End}
-use Rattle.simit_run.specs.declared.token.keyword.TheConstants as keyword
-use Rattle.simit_run.specs.declared.token.symbol.TheConstants as symbol
+use Rattle.sim_lexer.specs.declared.token.Token.{Token}
+use Rattle.sim_lexer.specs.declared.token.TokenKind.{TokenKind}
+use Rattle.sim_lexer.specs.declared.token.TokenKind.TheVariants.{Name, Number, Keyword, Symbol, End}
+use Rattle.sim_lexer.specs.declared.token.keyword.TheConstants as keyword
+use Rattle.sim_lexer.specs.declared.token.symbol.TheConstants as symbol
 use Rattle.simit_run.specs.declared.program.Program.{Program}
 use Rattle.simit_run.specs.declared.program.Assignment.{Assignment}
 use Rattle.simit_run.specs.declared.program.Term.{Term}

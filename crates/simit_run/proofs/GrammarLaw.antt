@@ -2,10 +2,10 @@
 use Rattle.std.proofs.Common.{◌≡◌, ℕ, List, Some, Result, Ok, Err, sym, ap, subst, ◌∙◌}
 use Rattle.std.specs.Prelude.{All, IfOk}
 use Rattle.std.proofs.lemmas.Option.{same_Some}
-use Rattle.simit_run.specs.declared.token.Token.{Token}
+use Rattle.sim_lexer.specs.declared.token.Token.{Token}
 use Rattle.simit_run.specs.declared.program.Program.{Program}
 use Rattle.simit_run.specs.declared.parts.ParseFault.{ParseFault}
-use Rattle.simit_run.specs.Tokens.{tokens, EndsOnce, IsSpelled}
+use Rattle.sim_lexer.specs.Tokens.{tokens, EndsOnce, IsSpelled}
 use Rattle.simit_run.specs.Reading.{program_in, Gives}
 use Rattle.simit_run.specs.Grammar.{IsUnambiguous, States}
 use Rattle.simit_run.proofs.GrammarSound.{reads_derived}

@@ -14,7 +14,7 @@ use Rattle.std.proofs.lemmas.List.Sums.{AllPass-from_list_all, prefix_len_is, su
 use Rattle.ring_words.specs.Cell.{cell, parts, is_space, without_spaces, starts_with_byte, is_too_large}
 use Rattle.ring_words.specs.declared.cells.CellFault.{CellFault}
 use Rattle.ring_words.specs.declared.cells.CellFault.TheVariants.{TooLarge}
-use Rattle.simit_run.specs.Tokens.{AreDigits, IsNumber}
+use Rattle.sim_lexer.specs.Tokens.{AreDigits, IsNumber}
 use Rattle.simit_run.specs.Reading.{number_of}
 use Rattle.simit_run.proofs.GrammarNames.{unless_some, result_ok-some}
 

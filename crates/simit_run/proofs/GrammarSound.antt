@@ -6,15 +6,15 @@ use Rattle.std.proofs.lemmas.Bool.{or_cases, or_right, and_parts, not-true}
 use Rattle.std.proofs.lemmas.List.{append-nil, get_or_at}
 use Rattle.std.proofs.lemmas.List.Elements.{All-head, All-same}
 use Rattle.std.proofs.lemmas.Option.{same_Some, option_and_then_some, cond_some}
-use Rattle.simit_run.specs.declared.token.Token.{Token}
-use Rattle.simit_run.specs.declared.token.TokenKind.{TokenKind}
-use Rattle.simit_run.specs.declared.token.TokenKind.TheVariants.{Name, Number, Keyword, Symbol, End}
-use Rattle.simit_run.specs.declared.token.keyword.TheConstants as keyword
-use Rattle.simit_run.specs.declared.token.symbol.TheConstants as symbol
+use Rattle.sim_lexer.specs.declared.token.Token.{Token}
+use Rattle.sim_lexer.specs.declared.token.TokenKind.{TokenKind}
+use Rattle.sim_lexer.specs.declared.token.TokenKind.TheVariants.{Name, Number, Keyword, Symbol, End}
+use Rattle.sim_lexer.specs.declared.token.keyword.TheConstants as keyword
+use Rattle.sim_lexer.specs.declared.token.symbol.TheConstants as symbol
 use Rattle.simit_run.specs.declared.program.Program.{Program}
 use Rattle.simit_run.specs.declared.program.Assignment.{Assignment}
 use Rattle.simit_run.specs.declared.program.Term.{Term}
-use Rattle.simit_run.specs.Tokens.{EndsOnce, IsNumber, IsSpelled, Spells}
+use Rattle.sim_lexer.specs.Tokens.{EndsOnce, IsNumber, IsSpelled, Spells}
 use Rattle.simit_run.specs.Reading.{starts, skip, text_at, number_of, number_at, field_at, starred_number, further_field, numbers_in, factors_in, term_in, has_sign, signed_term, first_term, sum_in, assignment_in, assignments_in, declaration_in, is_reserved, is_among, new_field_in, fields_in, is_empty, element_in, set_in, main_in, program_in}
 use Rattle.simit_run.specs.Grammar.{Rule, Joined, Each, Where, Are, Spelt, NumberIs, sign, FieldIs, Ref, Starred, Further, Refs, Product, FirstTerm, SignedTerm, Sum, Statement, Field, ElementType, SetOf, Main, NamesOf, Derives}
 use Rattle.simit_run.proofs.Grammar.{Taken, join, each_behind, taken_nothing, is_kind-same, skip-sound, text_at-sound, Repeated, repeat-sound}

@@ -1,8 +1,5 @@
 pub mod Assigned
 pub mod Blocks
-pub mod Lexing
-pub mod LexingLaw
-pub mod LexingTables
 pub mod Repeat
 pub mod Puts
 pub mod Stages

@@ -1,7 +1,7 @@
 -- How a loop reads a repetition.
 use Rattle.std.proofs.Common.{◌≡◌, ℕ, zero, suc, ◌-◌, ◌<◌, Bool, true, List, [], ◌∷◌, ◌++◌, Some, arith, refl}
 use Rattle.simit_run.specs.Reading.{Read, repeat}
-use Rattle.simit_run.specs.declared.token.Token.{Token}
+use Rattle.sim_lexer.specs.declared.token.Token.{Token}
 
 -- one more item
 pub repeat_more : {A : Type 0} (begins : List Token → Bool) (one : List A → List Token → Read A) (room : ℕ) (items : List A) (ts behind : List Token) (item : A)

@@ -10,12 +10,12 @@
 use Rattle.std.specs.Prelude.{◌≡◌, ◌≢◌, ℕ, ◌<◌, ◌≤◌, ◌^◌, Bool, true, false, List, [], ◌∷◌, ◌++◌, length, map, All, Contains, Ok, codes, slice_range, slice_index_or}
 use Rattle.std.specs.List.{AllPairs}
 use Rattle.std.specs.Str.Parse.{digits_value}
-use Rattle.simit_run.specs.Tokens.{AreDigits, tokens}
-use Rattle.simit_run.specs.declared.token.Token.{Token}
-use Rattle.simit_run.specs.declared.token.TokenKind.{TokenKind}
-use Rattle.simit_run.specs.declared.token.TokenKind.TheVariants.{Name, Number, Keyword, Symbol, End}
-use Rattle.simit_run.specs.declared.token.keyword.TheConstants as keyword
-use Rattle.simit_run.specs.declared.token.symbol.TheConstants as symbol
+use Rattle.sim_lexer.specs.Tokens.{AreDigits, tokens}
+use Rattle.sim_lexer.specs.declared.token.Token.{Token}
+use Rattle.sim_lexer.specs.declared.token.TokenKind.{TokenKind}
+use Rattle.sim_lexer.specs.declared.token.TokenKind.TheVariants.{Name, Number, Keyword, Symbol, End}
+use Rattle.sim_lexer.specs.declared.token.keyword.TheConstants as keyword
+use Rattle.sim_lexer.specs.declared.token.symbol.TheConstants as symbol
 use Rattle.simit_run.specs.declared.program.Program.{Program}
 use Rattle.simit_run.specs.declared.program.Assignment.{Assignment}
 use Rattle.simit_run.specs.declared.program.Term.{Term}

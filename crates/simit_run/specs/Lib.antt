@@ -1,4 +1,3 @@
-pub mod Tokens
 pub mod Reading
 pub mod Meaning
 pub mod Status

@@ -6,12 +6,12 @@ use Rattle.std.specs.Result.{result_ok}
 use Rattle.std.specs.List.{list_any}
 use Rattle.std.specs.Str.{bytes_eq}
 use Rattle.ring_words.specs.Cell.{cell}
-use Rattle.simit_run.specs.Tokens.{tokens, LiesIn}
-use Rattle.simit_run.specs.declared.token.Token.{Token}
-use Rattle.simit_run.specs.declared.token.TokenKind.{TokenKind}
-use Rattle.simit_run.specs.declared.token.TokenKind.TheVariants.{Name, Number, Keyword, Symbol, End}
-use Rattle.simit_run.specs.declared.token.keyword.TheConstants as keyword
-use Rattle.simit_run.specs.declared.token.symbol.TheConstants as symbol
+use Rattle.sim_lexer.specs.Tokens.{tokens, LiesIn}
+use Rattle.sim_lexer.specs.declared.token.Token.{Token}
+use Rattle.sim_lexer.specs.declared.token.TokenKind.{TokenKind}
+use Rattle.sim_lexer.specs.declared.token.TokenKind.TheVariants.{Name, Number, Keyword, Symbol, End}
+use Rattle.sim_lexer.specs.declared.token.keyword.TheConstants as keyword
+use Rattle.sim_lexer.specs.declared.token.symbol.TheConstants as symbol
 use Rattle.simit_run.specs.declared.program.Program.{Program}
 use Rattle.simit_run.specs.declared.program.Assignment.{Assignment}
 use Rattle.simit_run.specs.declared.program.Term.{Term}

@@ -4,7 +4,6 @@
 mod answering;
 mod command;
 mod evaluation;
-mod lexer;
 mod note;
 mod parser;
 mod parts;
@@ -14,7 +13,6 @@ mod stop;
 mod sums;
 #[cfg(test)]
 mod tests;
-mod token;
 mod top_call;
 
 pub use status::Status;

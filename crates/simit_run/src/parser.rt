@@ -6,12 +6,11 @@ ghost use Rattle.simit_run.specs.Reading.{AreOf, Gives, fields_in, assignments_i
 ghost use Rattle.simit_run.specs.Grammar.{IsUnambiguous, States};
 ghost use Rattle.simit_run.specs.Meaning.{AreOver, IsAssignmentOver};
 
-use crate::lexer::lex;
 use crate::parts::{ParseFault, skip, starts, text_at, to_text};
 use crate::program::{Assignment, Program};
 use crate::sums::{Scope, field_at, sum};
-use crate::token::{LexFault, Token, TokenKind, keyword, symbol};
 use ring_words::{L, Text};
+use sim_lexer::{LexFault, Token, TokenKind, keyword, lex, symbol};
 use std::alloc::Global;
 
 /// The most fields that an element type may have.
@@ -302,7 +301,7 @@ pub fn parse(alloc: Global, source: &[u8]) -> Result<Program, ParseFault>
     ensures places { IfOk result (λ p. AreOver (length p.fields) p.assignments) }
 {
     match lex(alloc, source) {
-        Ok(tokens) => program(alloc, source, &tokens),
+        Ok(tokens) => program(alloc, source, tokens.list()),
         Err(LexFault::Memory) => Err(ParseFault::Memory),
         Err(_) => Err(ParseFault::Refused),
     }

@@ -4,8 +4,8 @@ ghost use Rattle.std.specs.Prelude.{◌≡◌, ◌<◌, ◌≤◌, ◌^◌, IfOk
 ghost use Rattle.simit_run.specs.Reading as reading;
 ghost use Rattle.simit_run.specs.Reading.{AreOf, Gives};
 
-use crate::token::{Token, TokenKind};
 use ring_words::{Text, read_cell};
+use sim_lexer::{Token, TokenKind};
 use std::alloc::{AllocError, Global};
 use thiserror::Error;
 

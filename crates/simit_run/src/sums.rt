@@ -8,8 +8,8 @@ ghost use Rattle.simit_run.specs.Meaning.{AreTermsOver, IsTermOver};
 
 use crate::parts::{ParseFault, number_at, skip, starts, text_at};
 use crate::program::Term;
-use crate::token::{Token, TokenKind, symbol};
 use ring_words::{L, Text};
+use sim_lexer::{Token, TokenKind, symbol};
 use std::alloc::Global;
 
 /// A set whose fields a program names.

@@ -1,7 +1,7 @@
 use Rattle.std.proofs.Common.{◌≡◌, length}
 use Rattle.simit_run.specs.Meaning.{AreOver}
 use Rattle.simit_run.specs.Reading.{AreOf, assignment_in, assignments_in, repeat, starts}
-use Rattle.simit_run.specs.declared.token.TokenKind.TheVariants.{Name}
+use Rattle.sim_lexer.specs.declared.token.TokenKind.TheVariants.{Name}
 use Rattle.simit_run.proofs.parser.assignments.Given as goal
 
 -- the assignments so far and those that follow are all of them

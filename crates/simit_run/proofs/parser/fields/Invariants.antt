@@ -1,6 +1,6 @@
 use Rattle.std.proofs.Common.{◌≡◌, ◌≤◌, ◌+◌, length, All}
 use Rattle.simit_run.specs.Reading.{AreOf, fields_in, new_field_in, repeat, starts}
-use Rattle.simit_run.specs.declared.token.TokenKind.TheVariants.{Name}
+use Rattle.sim_lexer.specs.declared.token.TokenKind.TheVariants.{Name}
 use Rattle.simit_run.proofs.parser.fields.Given as goal
 
 -- the fields so far and those that follow are all of them

@@ -2,8 +2,8 @@ use Rattle.std.proofs.Common.{◌≡◌, true, ℕ, List, ◌++◌, ◌∷◌, [
 use Rattle.std.proofs.lemmas.Grind.{common_steps}
 use Rattle.std.proofs.lemmas.List.Elements.{All-push}
 use Rattle.simit_run.specs.Reading.{further_field, repeat, starts}
-use Rattle.simit_run.specs.declared.token.TokenKind.TheVariants.{Symbol}
-use Rattle.simit_run.specs.declared.token.symbol.TheConstants.{ENTRYWISE}
+use Rattle.sim_lexer.specs.declared.token.TokenKind.TheVariants.{Symbol}
+use Rattle.sim_lexer.specs.declared.token.symbol.TheConstants.{ENTRYWISE}
 use Rattle.simit_run.proofs.Repeat.{repeat_more}
 use Rattle.simit_run.proofs.sums.factors.Goals as goal
 

@@ -1,7 +1,7 @@
 use Rattle.std.proofs.Common.{◌≡◌, ◌<◌, length, All}
 use Rattle.simit_run.specs.Reading.{AreOf, factors_in, further_field, repeat, starts}
-use Rattle.simit_run.specs.declared.token.TokenKind.TheVariants.{Symbol}
-use Rattle.simit_run.specs.declared.token.symbol.TheConstants.{ENTRYWISE}
+use Rattle.sim_lexer.specs.declared.token.TokenKind.TheVariants.{Symbol}
+use Rattle.sim_lexer.specs.declared.token.symbol.TheConstants.{ENTRYWISE}
 use Rattle.simit_run.proofs.sums.factors.Given as goal
 
 -- the fields so far and those that follow are all of them

@@ -1,6 +1,6 @@
 use Rattle.std.proofs.Common.{◌≡◌}
 use Rattle.simit_run.specs.Reading.{AreOf, numbers_in, repeat, starred_number, starts}
-use Rattle.simit_run.specs.declared.token.TokenKind.TheVariants.{Number}
+use Rattle.sim_lexer.specs.declared.token.TokenKind.TheVariants.{Number}
 use Rattle.simit_run.proofs.sums.numbers.Given as goal
 
 -- the numbers so far and those that follow are all of them

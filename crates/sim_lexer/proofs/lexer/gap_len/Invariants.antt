@@ -1,7 +1,7 @@
 use Rattle.std.proofs.Common.{◌≡◌, ◌+◌, drop}
-use Rattle.simit_run.specs.Tokens.{gap_len}
-use Rattle.simit_run.proofs.Lexing.{gap_left}
-use Rattle.simit_run.proofs.lexer.gap_len.Given as goal
+use Rattle.sim_lexer.specs.Tokens.{gap_len}
+use Rattle.sim_lexer.proofs.Lexing.{gap_left}
+use Rattle.sim_lexer.proofs.lexer.gap_len.Given as goal
 
 abbrev pub invariant-loop-i : goal.invariant-loop-i
 invariant-loop-i l = gap_len l.text ≡ l.i + gap_left l.in_comment (drop l.i l.text)

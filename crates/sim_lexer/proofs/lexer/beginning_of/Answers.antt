@@ -3,8 +3,8 @@ use Rattle.std.specs.Prelude.{IfSome, length, map, option_map, nat_eq}
 use Rattle.std.specs.List.{starts_with}
 use Rattle.std.proofs.lemmas.Iterator.{YieldsList-from_slice}
 use Rattle.std.proofs.lemmas.Iterator.Search.{find_from_yields_List}
-use Rattle.simit_run.proofs.LexingTables.{Row, spelling, number_and_length, first_number_and_length, found_within}
-use Rattle.simit_run.proofs.lexer.beginning_of.Goals as goal
+use Rattle.sim_lexer.proofs.LexingTables.{Row, spelling, number_and_length, first_number_and_length, found_within}
+use Rattle.sim_lexer.proofs.lexer.beginning_of.Goals as goal
 
 pub returns : goal.returns
 returns c =

@@ -8,12 +8,12 @@ use Rattle.std.proofs.lemmas.List.{length_push, get_or-take, get_or_past}
 use Rattle.std.proofs.lemmas.List.Elements.{All-push}
 use Rattle.std.proofs.Math.Seq.{take-add}
 use Rattle.std.proofs.lemmas.List.Sums.{sum_by-append, prefix_len_passes}
-use Rattle.simit_run.specs.declared.token.Token.{Token}
-use Rattle.simit_run.specs.declared.token.TokenKind.{TokenKind}
-use Rattle.simit_run.specs.declared.token.TokenKind.TheVariants.{Name, Number, Keyword, Symbol, End}
-use Rattle.simit_run.specs.declared.token.LexFault.{LexFault}
-use Rattle.simit_run.specs.declared.token.LexFault.TheVariants.{BadByte, LongName, TooMany, TooDeep, Memory}
-use Rattle.simit_run.specs.Tokens.{gap_len, comment_len, symbols, is_line_feed, is_letter, is_name_byte, name_len, number_len, word_kind, symbol_at, symbol_token_at, line_at, token_at, token_after, placed, tokens_from, tokens, LiesIn, ◌>>=◌, Fails, is_name, is_end, depth_behind}
+use Rattle.sim_lexer.specs.declared.token.Token.{Token}
+use Rattle.sim_lexer.specs.declared.token.TokenKind.{TokenKind}
+use Rattle.sim_lexer.specs.declared.token.TokenKind.TheVariants.{Name, Number, Keyword, Symbol, End}
+use Rattle.sim_lexer.specs.declared.token.LexFault.{LexFault}
+use Rattle.sim_lexer.specs.declared.token.LexFault.TheVariants.{BadByte, LongName, TooMany, TooDeep, Memory}
+use Rattle.sim_lexer.specs.Tokens.{gap_len, comment_len, symbols, is_line_feed, is_letter, is_name_byte, name_len, number_len, word_kind, symbol_at, symbol_token_at, line_at, token_at, token_after, placed, tokens_from, tokens, LiesIn, ◌>>=◌, Fails, is_name, is_end, depth_behind}
 
 -- what is left of a gap, inside a comment or outside
 abbrev pub gap_left : Bool → List ℕ → ℕ

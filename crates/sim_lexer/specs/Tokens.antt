@@ -1,15 +1,14 @@
 -- Tokens: how a text is cut into gaps and tokens, or the first fault in it.
 use Rattle.std.specs.Prelude.{◌≡◌, ℕ, zero, suc, ◌+◌, ◌-◌, ◌≤◌, ◌<◌, ◌↔◌, Bool, true, false, not, ◌&&◌, ◌||◌, ◌==◌, nat_lt, nat_eq, List, [], ◌∷◌, ◌++◌, length, take, drop, count_by, position, slice_index, slice_index_or, slice_range, Contains, ◌⊎◌, Option, Some, None, option_map, Result, Ok, Err, if◌then◌else◌, codes, bytes_eq, IsAscii}
-use Rattle.std.specs.Global.{Vec}
 use Rattle.std.specs.List.{prefix_len, starts_with, list_all}
 use Rattle.std.specs.Char.{is_ascii_digit, is_ascii_alphabetic}
-use Rattle.simit_run.specs.declared.token.Token.{Token}
-use Rattle.simit_run.specs.declared.token.TokenKind.{TokenKind}
-use Rattle.simit_run.specs.declared.token.TokenKind.TheVariants.{Name, Number, Keyword, Symbol, End}
-use Rattle.simit_run.specs.declared.token.LexFault.{LexFault}
-use Rattle.simit_run.specs.declared.token.LexFault.TheVariants.{BadByte, LongName, TooMany, TooDeep, Memory}
-use Rattle.simit_run.specs.declared.token.keyword.TheConstants.{IF, WHILE, FOR, END}
-use Rattle.simit_run.specs.declared.token.symbol.TheConstants.{OPEN_PAREN, CLOSE_PAREN, OPEN_BRACKET, CLOSE_BRACKET, OPEN_BRACE, CLOSE_BRACE}
+use Rattle.sim_lexer.specs.declared.token.Token.{Token}
+use Rattle.sim_lexer.specs.declared.token.TokenKind.{TokenKind}
+use Rattle.sim_lexer.specs.declared.token.TokenKind.TheVariants.{Name, Number, Keyword, Symbol, End}
+use Rattle.sim_lexer.specs.declared.token.LexFault.{LexFault}
+use Rattle.sim_lexer.specs.declared.token.LexFault.TheVariants.{BadByte, LongName, TooMany, TooDeep, Memory}
+use Rattle.sim_lexer.specs.declared.token.keyword.TheConstants.{IF, WHILE, FOR, END}
+use Rattle.sim_lexer.specs.declared.token.symbol.TheConstants.{OPEN_PAREN, CLOSE_PAREN, OPEN_BRACKET, CLOSE_BRACKET, OPEN_BRACE, CLOSE_BRACE}
 
 -- ---- spellings
 
@@ -162,8 +161,8 @@ Fails (LongName at) told = told ≡ Err (LongName at)
 Fails (TooMany at) told = told ≡ Err (TooMany at)
 Fails (TooDeep at) told = told ≡ Err (TooDeep at)
 
-abbrev pub Answers : Result (Vec Token) LexFault → Result (List Token) LexFault → Type 0
-Answers (Ok v) told = told ≡ Ok v.items
+abbrev pub Answers : Result (List Token) LexFault → Result (List Token) LexFault → Type 0
+Answers (Ok all) told = told ≡ Ok all
 Answers (Err fault) told = Fails fault told
 
 -- ---- what a reader of the tokens can rely on

@@ -1,7 +1,7 @@
 use Rattle.std.proofs.Common.{refl, arith}
 use Rattle.std.proofs.lemmas.Grind.{common_steps}
-use Rattle.simit_run.proofs.Lexing.{token_found, found_lies, line_moves}
-use Rattle.simit_run.proofs.lexer.token_after.Goals as goal
+use Rattle.sim_lexer.proofs.Lexing.{token_found, found_lies, line_moves}
+use Rattle.sim_lexer.proofs.lexer.token_after.Goals as goal
 
 pub returns-in-Some-clause-exact : goal.returns-in-Some-clause-exact
 returns-in-Some-clause-exact c =

@@ -2,8 +2,8 @@ use Rattle.std.proofs.Common.{◌≡◌, ◌∙◌, ap, rules, tests}
 use Rattle.std.specs.Prelude.{option_map, bytes_eq}
 use Rattle.std.proofs.lemmas.Iterator.{YieldsList-from_slice}
 use Rattle.std.proofs.lemmas.Iterator.Search.{find_from_yields_List}
-use Rattle.simit_run.proofs.LexingTables.{Row, spelling, number, first_number}
-use Rattle.simit_run.proofs.lexer.number_of.Goals as goal
+use Rattle.sim_lexer.proofs.LexingTables.{Row, spelling, number, first_number}
+use Rattle.sim_lexer.proofs.lexer.number_of.Goals as goal
 
 pub returns : goal.returns
 returns c =

@@ -1,6 +1,6 @@
 use Rattle.std.proofs.Common.{◌-◌, vec_len}
-use Rattle.simit_run.proofs.Lexing.{Begins}
-use Rattle.simit_run.proofs.lexer.lex.Given as goal
+use Rattle.sim_lexer.proofs.Lexing.{Begins}
+use Rattle.sim_lexer.proofs.lexer.lex.Given as goal
 
 abbrev pub invariant-loop-tokens : goal.invariant-loop-tokens
 invariant-loop-tokens l = Begins l.bytes l.tokens.items l.last l.depth

@@ -6,9 +6,10 @@
 
 ghost use Rattle.std.specs.Prelude.{◌≡◌, ◌+◌, ◌<◌, ◌≤◌, ◌^◌, length, take, drop, count_by, IfOk, IfSome, All, bytes_eq, find, option_map, nat_eq, map, position, slice_index_or, []};
 ghost use Rattle.std.specs.List.{starts_with, range_with_len};
-ghost use Rattle.simit_run.specs.Tokens as spec;
+ghost use Rattle.sim_lexer.specs.Tokens as spec;
 
 use crate::token::{KEYWORDS, LexFault, SYMBOLS, Token, TokenKind, keyword, symbol};
+use crate::tokens::Tokens;
 use std::alloc::Global;
 
 /// The most tokens that a text may have, its end included.
@@ -19,17 +20,17 @@ const LONGEST_NAME: u32 = 64;
 const MOST_DEPTH: u32 = 64;
 
 /// The tokens of a text of at most 2^20 bytes, the last of them its end, or the first fault in the text.
-pub fn lex(alloc: Global, bytes: &[u8]) -> Result<Vec<Token>, LexFault>
+pub fn lex(alloc: Global, bytes: &[u8]) -> Result<Tokens, LexFault>
     requires { length bytes.now ≤ 2 ^ 20 }
     // Which tokens they are, and which fault it is.
     ensures exact { spec.Answers result (spec.tokens bytes.now) }
     // The text is their bytes with gaps between.
-    ensures cut { IfOk result (λ v. spec.IsCut bytes.now 0 v.items) }
-    ensures spelled { IfOk result (λ v. All (spec.IsSpelled bytes.now) v.items) }
+    ensures cut { IfOk result (spec.IsCut bytes.now 0) }
+    ensures spelled { IfOk result (All (spec.IsSpelled bytes.now)) }
     // What a reader of them can rely on.
-    ensures lies { IfOk result (λ v. All (spec.LiesIn bytes.now) v.items) }
-    ensures few { IfOk result (λ v. length v.items ≤ 65536) }
-    ensures ends { IfOk result (λ v. spec.EndsOnce v.items) }
+    ensures lies { IfOk result (All (spec.LiesIn bytes.now)) }
+    ensures few { IfOk result (λ tokens. length tokens ≤ 65536) }
+    ensures ends { IfOk result spec.EndsOnce }
 {
     let mut tokens = Vec::new(alloc);
     let mut last = Token {
@@ -47,7 +48,7 @@ pub fn lex(alloc: Global, bytes: &[u8]) -> Result<Vec<Token>, LexFault>
         depth = depth_behind(depth, token)?;
         tokens.push(token).map_err(|_| LexFault::Memory)?;
         if token.kind == TokenKind::End {
-            return Ok(tokens);
+            return Ok(Tokens::of(tokens));
         }
         last = token;
     }
@@ -260,104 +261,4 @@ fn is_name_byte(b: u8) -> bool
     ensures { result ≡ spec.is_name_byte b }
 {
     is_letter(b) || b.is_ascii_digit()
-}
-
-#[cfg(test)]
-mod tests {
-    use super::*;
-    use std::test::Fail;
-
-    const fn token(kind: TokenKind, from: u32, to: u32, line: u32) -> Token {
-        Token {
-            kind,
-            from,
-            to,
-            line,
-        }
-    }
-
-    #[test]
-    fn tokens(rt: HostRuntime) -> Result<(), Fail> {
-        let name = TokenKind::Name;
-        let number = TokenKind::Number;
-        let end = TokenKind::End;
-        let cases: [(&[u8], &[Token]); 6] = [
-            (b"", &[token(end, 0, 0, 1)]),
-            (
-                b"%\x00\xff\n a",
-                &[token(name, 5, 6, 2), token(end, 6, 6, 2)],
-            ),
-            (
-                b"iff if\t_9",
-                &[
-                    token(name, 0, 3, 1),
-                    token(TokenKind::Keyword(keyword::IF), 4, 6, 1),
-                    token(name, 7, 9, 1),
-                    token(end, 9, 9, 1),
-                ],
-            ),
-            (
-                b"1.5.x 7.",
-                &[
-                    token(number, 0, 3, 1),
-                    token(TokenKind::Symbol(symbol::POINT), 3, 4, 1),
-                    token(name, 4, 5, 1),
-                    token(number, 6, 7, 1),
-                    token(TokenKind::Symbol(symbol::POINT), 7, 8, 1),
-                    token(end, 8, 8, 1),
-                ],
-            ),
-            (
-                b"->-.*<=\r\n<% >\n",
-                &[
-                    token(TokenKind::Symbol(symbol::ARROW), 0, 2, 1),
-                    token(TokenKind::Symbol(symbol::MINUS), 2, 3, 1),
-                    token(TokenKind::Symbol(symbol::ENTRYWISE), 3, 5, 1),
-                    token(TokenKind::Symbol(symbol::AT_MOST), 5, 7, 1),
-                    token(TokenKind::Symbol(symbol::LESS), 9, 10, 2),
-                    token(end, 14, 14, 3),
-                ],
-            ),
-            (
-                b")(end while",
-                &[
-                    token(TokenKind::Symbol(symbol::CLOSE_PAREN), 0, 1, 1),
-                    token(TokenKind::Symbol(symbol::OPEN_PAREN), 1, 2, 1),
-                    token(TokenKind::Keyword(keyword::END), 2, 5, 1),
-                    token(TokenKind::Keyword(keyword::WHILE), 6, 11, 1),
-                    token(end, 11, 11, 1),
-                ],
-            ),
-        ];
-        for (text, wanted) in cases.iter() {
-            assert!(rt; text.len() <= 1 << 20);
-            let found = lex(rt.alloc(), text)?;
-            assert_eq!(rt; found.as_slice(), *wanted, "in {text:?}");
-        }
-        Ok(())
-    }
-
-    #[test]
-    fn faults(rt: HostRuntime) {
-        let name = [b'n'; 65];
-        let deep = [b'['; 65];
-        let mut many = [b'+'; 65_537];
-        many[65_536] = b'?';
-        let cases: [(&[u8], LexFault); 7] = [
-            (b"a\n ?", LexFault::BadByte { at: 3 }),
-            (b"a!", LexFault::BadByte { at: 1 }),
-            (&name, LexFault::LongName { at: 0 }),
-            (&deep, LexFault::TooDeep { at: 64 }),
-            (&many[..65_536], LexFault::TooMany { at: 65_536 }),
-            (&many, LexFault::BadByte { at: 65_536 }),
-            (b"\x0c", LexFault::BadByte { at: 0 }),
-        ];
-        for (text, wanted) in cases.iter() {
-            assert!(rt; text.len() <= 1 << 20);
-            assert!(rt; matches!(lex(rt.alloc(), text), Err(fault) if fault == *wanted));
-        }
-        assert!(rt; lex(rt.alloc(), &name[..64]).is_ok());
-        assert!(rt; lex(rt.alloc(), &deep[..64]).is_ok());
-        assert!(rt; lex(rt.alloc(), &many[..65_535]).is_ok());
-    }
 }

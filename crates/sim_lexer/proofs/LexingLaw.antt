@@ -7,14 +7,14 @@ use Rattle.std.proofs.lemmas.Slice.Eq.{bytes_eq-Decides, starts_is}
 use Rattle.std.proofs.lemmas.Bool.{eqb-true, cases_lt, lt-ltb, le-ltb, ltb-true}
 use Rattle.std.proofs.lemmas.Bool.Decides.{Decides-eqb}
 use Rattle.std.proofs.Math.Seq.{take-add}
-use Rattle.simit_run.specs.declared.token.Token.{Token}
-use Rattle.simit_run.specs.declared.token.LexFault.{LexFault}
-use Rattle.simit_run.specs.declared.token.LexFault.TheVariants.{LongName, TooMany}
-use Rattle.simit_run.specs.declared.token.TokenKind.{TokenKind}
-use Rattle.simit_run.specs.declared.token.TokenKind.TheVariants.{Name, Number, Keyword, Symbol, End}
+use Rattle.sim_lexer.specs.declared.token.Token.{Token}
+use Rattle.sim_lexer.specs.declared.token.LexFault.{LexFault}
+use Rattle.sim_lexer.specs.declared.token.LexFault.TheVariants.{LongName, TooMany}
+use Rattle.sim_lexer.specs.declared.token.TokenKind.{TokenKind}
+use Rattle.sim_lexer.specs.declared.token.TokenKind.TheVariants.{Name, Number, Keyword, Symbol, End}
 use Rattle.std.proofs.lemmas.List.{length-take-le, length-append, length-drop, take_at}
 use Rattle.std.proofs.lemmas.List.Sums.{prefix_len-le-length, passes_at_first, fails_before_first}
-use Rattle.simit_run.specs.Tokens.{gap_len, comment_len, is_blank, is_percent, is_line_feed, is_one_line, IsGap, nothing, blank, comment, IsLastGap, closed, left_open, Separates, Spells, IsWord, IsNumber, AreDigits, digits_len, is_name, is_letter, is_name_byte, name_len, number_len, kind_of_keyword, word_kind, keywords, symbols, symbol_at, symbol_token_at, token_at, token_after, placed, line_at, IsSpelled, IsCut, depth_behind, tokens_from, tokens, ◌>>=◌, is_end}
+use Rattle.sim_lexer.specs.Tokens.{gap_len, comment_len, is_blank, is_percent, is_line_feed, is_one_line, IsGap, nothing, blank, comment, IsLastGap, closed, left_open, Separates, Spells, IsWord, IsNumber, AreDigits, digits_len, is_name, is_letter, is_name_byte, name_len, number_len, kind_of_keyword, word_kind, keywords, symbols, symbol_at, symbol_token_at, token_at, token_after, placed, line_at, IsSpelled, IsCut, depth_behind, tokens_from, tokens, ◌>>=◌, is_end}
 
 -- a token lies within a text of so many bytes
 abbrev LiesWithin : ℕ → Token → Type 0
