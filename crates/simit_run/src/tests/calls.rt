@@ -85,11 +85,39 @@ pub fn call(
     })
 }
 
-/// The end of `run a.sim points.csv` over these two files.
-pub fn call_over(alloc: Global, program: &[u8], table: &[u8]) -> Result<Ended, Fail> {
+/// The end of `run a.sim points.csv` over these two files, in which a take gives, and a put takes, at most
+/// so many bytes.
+pub fn call_by(
+    alloc: Global,
+    program: &[u8],
+    table: &[u8],
+    failing: Failing,
+    most: usize,
+) -> Result<Ended, Fail>
+    requires { 1 ≤ most }
+{
     let words = ["run", "a.sim", "points.csv"];
     let files = [("a.sim", program), ("points.csv", table)];
-    call(alloc, &words, &files, NONE_FAILS, 4096, 4096)
+    call(alloc, &words, &files, failing, most, most)
+}
+
+/// The end of `run a.sim points.csv` over these two files, where nothing fails.
+fn call_over(alloc: Global, program: &[u8], table: &[u8]) -> Result<Ended, Fail> {
+    call_by(alloc, program, table, NONE_FAILS, 4096)
+}
+
+/// Asserts how a call ended.
+pub fn assert_shown(
+    rt: &impl Abort,
+    case: &str,
+    ended: &Ended,
+    status: Status,
+    out: &[u8],
+    note: &[u8],
+) {
+    assert_eq!(rt; ended.status, status, "status of {case}");
+    assert_eq!(rt; ended.out.bytes(), out, "output of {case}");
+    assert_eq!(rt; ended.notes.bytes(), note, "note of {case}");
 }
 
 /// Asserts how a call ended, where no read failed.
@@ -101,10 +129,23 @@ pub fn assert_ended(
     out: &[u8],
     note: &[u8],
 ) {
-    assert_eq!(rt; ended.status, status, "status of {case}");
-    assert_eq!(rt; ended.out.bytes(), out, "output of {case}");
-    assert_eq!(rt; ended.notes.bytes(), note, "note of {case}");
+    assert_shown(rt, case, ended, status, out, note);
     assert_eq!(rt; ended.inputs.fault_count(), 0, "faults of {case}");
+}
+
+/// Asserts how `run a.sim points.csv` ends over these two files, where nothing fails.
+pub fn assert_over(
+    rt: &(impl Abort + AllocGlobal),
+    case: &str,
+    program: &[u8],
+    table: &[u8],
+    status: Status,
+    out: &[u8],
+    note: &[u8],
+) -> Result<(), Fail> {
+    let ended = call_over(rt.alloc(), program, table)?;
+    assert_ended(rt, case, &ended, status, out, note);
+    Ok(())
 }
 
 /// A program text of a set `points` with these fields and statements.

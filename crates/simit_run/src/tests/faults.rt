@@ -1,9 +1,9 @@
 //! Faults of the inputs and of the sinks: each call that fails in turn.
-ghost use Rattle.std.specs.Prelude.{◌≤◌};
+ghost use Rattle.std.specs.Prelude.{◌≤◌, length};
 
-use super::calls::{Ended, Failing, NEVER, NONE_FAILS, assert_ended, call};
+use super::calls::{Failing, NEVER, NONE_FAILS, assert_ended, assert_shown, call, call_by};
 use crate::Status;
-use std::alloc::Global;
+use std::process::Abort;
 use std::test::Fail;
 
 const WORDS: [&str; 3] = ["run", "a.sim", "points.csv"];
@@ -11,91 +11,84 @@ const WORDS: [&str; 3] = ["run", "a.sim", "points.csv"];
 const PROGRAM: &[u8] =
     b"element Point x: int(0); f: int(0); end extern points: set{Point}; proc main points.f = -points.x; end";
 
+/// A program that is refused: it names a field of no set.
+const REFUSED: &[u8] =
+    b"element Point x: int(0); end extern points: set{Point}; proc main x = x; end";
+
 const TABLE: &[u8] = b"x,f\n3,4\n-1,2\n";
 
 const OUT: &[u8] = b"set points\nx,f\n3,-3\n-1,1\n";
-
-/// The end of a call over a program and a table.
-fn failing_call(
-    alloc: Global,
-    program: &[u8],
-    table: &[u8],
-    failing: Failing,
-    most: usize,
-) -> Result<Ended, Fail>
-    requires { 1 ≤ most }
-{
-    let files = [("a.sim", program), ("points.csv", table)];
-    call(alloc, &WORDS, &files, failing, most, most)
-}
 
 /// How many calls it takes to read so many bytes: an open, the takes, and one that tells the end.
 fn calls_for(bytes: &[u8], most: usize) -> u64 {
     2 + bytes.len().div_ceil(most.max(1)) as u64
 }
 
+/// Asserts how a call ends whose read of a number fails, where a take gives at most so many bytes.
+fn assert_read_fails(
+    rt: &(impl Abort + AllocGlobal),
+    number: u64,
+    most: usize,
+    note: &[u8],
+) -> Result<(), Fail>
+    requires { 1 ≤ most }
+{
+    let failing = Failing {
+        inputs: number,
+        ..NONE_FAILS
+    };
+    let ended = call_by(rt.alloc(), PROGRAM, TABLE, failing, most)?;
+    let case = format!(in rt.alloc(); "read {number} of {most} bytes")?;
+    assert_shown(rt, case.as_str(), &ended, Status::ReadFault, b"", note);
+    assert_eq!(rt; ended.inputs.fault_count(), 1, "faults of {case}");
+    Ok(())
+}
+
+/// Asserts how calls end in which each read fails in turn, and that there is no further one.
+fn assert_each_read_fails(rt: &(impl Abort + AllocGlobal), most: usize) -> Result<(), Fail>
+    requires { 1 ≤ most }
+{
+    let program_calls = calls_for(PROGRAM, most);
+    let all_calls = program_calls.saturating_add(calls_for(TABLE, most));
+    for number in 0..all_calls {
+        let note = if number < program_calls {
+            b"read fault: a.sim\n".as_slice()
+        } else {
+            b"read fault: points.csv\n".as_slice()
+        };
+        assert_read_fails(rt, number, most, note)?;
+    }
+    assert_none_fails(rt, all_calls, NEVER, most)
+}
+
 #[test]
 fn each_read_fails(rt: HostRuntime) -> Result<(), Fail> {
-    for most in [1, 3, 50, 4096] {
-        assert!(rt; most >= 1);
-        let program_calls = calls_for(PROGRAM, most);
-        let all_calls = program_calls.saturating_add(calls_for(TABLE, most));
-        for number in 0..all_calls {
-            let failing = Failing {
-                inputs: number,
-                ..NONE_FAILS
-            };
-            let ended = failing_call(rt.alloc(), PROGRAM, TABLE, failing, most)?;
-            let note = if number < program_calls {
-                "read fault: a.sim\n"
-            } else {
-                "read fault: points.csv\n"
-            };
-            assert_eq!(rt; ended.status, Status::ReadFault, "read {number} of {most}");
-            assert_eq!(rt;
-                ended.out.bytes(),
-                b"".as_slice(),
-                "read {number} of {most}"
-            );
-            assert_eq!(rt;
-                ended.notes.bytes(),
-                note.as_bytes(),
-                "read {number} of {most}"
-            );
-            assert_eq!(rt; ended.inputs.fault_count(), 1, "read {number} of {most}");
-        }
-        // No other call is made.
-        let failing = Failing {
-            inputs: all_calls,
-            ..NONE_FAILS
-        };
-        let ended = failing_call(rt.alloc(), PROGRAM, TABLE, failing, most)?;
-        assert_ended(&rt, "no read failed", &ended, Status::Done, OUT, b"");
-    }
+    assert_each_read_fails(&rt, 1)?;
+    assert_each_read_fails(&rt, 3)?;
+    assert_each_read_fails(&rt, 50)?;
+    assert_each_read_fails(&rt, 4096)
+}
+
+/// Asserts that a refused program's table is not opened, whose opening would fail.
+fn assert_table_unopened(
+    rt: &(impl Abort + AllocGlobal),
+    case: &str,
+    files: &[(&str, &[u8])],
+) -> Result<(), Fail> {
+    let failing = Failing {
+        inputs: calls_for(REFUSED, 4096),
+        ..NONE_FAILS
+    };
+    let ended = call(rt.alloc(), &WORDS, files, failing, 4096, 4096)?;
+    let note = b"refused: program\n";
+    assert_ended(rt, case, &ended, Status::Refused, b"", note);
     Ok(())
 }
 
 #[test]
 fn no_table_is_opened_for_a_refused_program(rt: HostRuntime) -> Result<(), Fail> {
-    let program = b"element Point x: int(0); end extern points: set{Point}; proc main x = x; end";
-    let failing = Failing {
-        inputs: calls_for(program, 4096),
-        ..NONE_FAILS
-    };
-    let alone = [("a.sim", program.as_slice())];
-    let both = [("a.sim", program.as_slice()), ("points.csv", TABLE)];
-    for (case, files) in [("alone", alone.as_slice()), ("both", both.as_slice())] {
-        let ended = call(rt.alloc(), &WORDS, files, failing, 4096, 4096)?;
-        assert_ended(
-            &rt,
-            case,
-            &ended,
-            Status::Refused,
-            b"",
-            b"refused: program\n",
-        );
-    }
-    Ok(())
+    assert_table_unopened(&rt, "alone", &[("a.sim", REFUSED)])?;
+    assert_table_unopened(&rt, "both", &[("a.sim", REFUSED), ("points.csv", TABLE)])
 }
 
 #[test]
@@ -111,30 +104,62 @@ fn nothing_is_opened_for_other_words(rt: HostRuntime) -> Result<(), Fail> {
     Ok(())
 }
 
+/// Asserts how a call ends whose put of a number fails, where a put takes at most so many bytes.
+fn assert_put_fails(
+    rt: &(impl Abort + AllocGlobal),
+    number: u64,
+    most: usize,
+    front: &[u8],
+) -> Result<(), Fail>
+    requires { 1 ≤ most }
+{
+    let failing = Failing {
+        out: number,
+        ..NONE_FAILS
+    };
+    let ended = call_by(rt.alloc(), PROGRAM, TABLE, failing, most)?;
+    let case = format!(in rt.alloc(); "put {number} of {most} bytes")?;
+    let note = b"write fault\n";
+    assert_ended(rt, case.as_str(), &ended, Status::WriteFault, front, note);
+    Ok(())
+}
+
+/// Asserts how a call ends in which neither the read nor the put of these numbers is made.
+fn assert_none_fails(
+    rt: &(impl Abort + AllocGlobal),
+    inputs: u64,
+    out: u64,
+    most: usize,
+) -> Result<(), Fail>
+    requires { 1 ≤ most }
+{
+    let failing = Failing {
+        inputs,
+        out,
+        ..NONE_FAILS
+    };
+    let ended = call_by(rt.alloc(), PROGRAM, TABLE, failing, most)?;
+    assert_ended(rt, "nothing failed", &ended, Status::Done, OUT, b"");
+    Ok(())
+}
+
+/// Asserts how calls end in which each put of the output fails in turn, and that there is no further one.
+fn assert_each_put_fails(rt: &(impl Abort + AllocGlobal), most: usize) -> Result<(), Fail>
+    requires { 1 ≤ most }
+{
+    let puts = OUT.len().div_ceil(most) as u64;
+    for number in 0..puts {
+        let front = &OUT[..OUT.len().min(number as usize * most)];
+        assert_put_fails(rt, number, most, front)?;
+    }
+    assert_none_fails(rt, NEVER, puts, most)
+}
+
 #[test]
 fn each_put_of_the_output_fails(rt: HostRuntime) -> Result<(), Fail> {
-    for most in [1, 4, 4096] {
-        assert!(rt; most >= 1);
-        let puts = OUT.len().div_ceil(most) as u64;
-        for number in 0..puts {
-            let failing = Failing {
-                out: number,
-                ..NONE_FAILS
-            };
-            let ended = failing_call(rt.alloc(), PROGRAM, TABLE, failing, most)?;
-            let case = format!(in rt.alloc(); "put {number} of {most} bytes")?;
-            let front = &OUT[..OUT.len().min(number as usize * most)];
-            let note = b"write fault\n";
-            assert_ended(&rt, case.as_str(), &ended, Status::WriteFault, front, note);
-        }
-        let failing = Failing {
-            out: puts,
-            ..NONE_FAILS
-        };
-        let ended = failing_call(rt.alloc(), PROGRAM, TABLE, failing, most)?;
-        assert_ended(&rt, "no put failed", &ended, Status::Done, OUT, b"");
-    }
-    Ok(())
+    assert_each_put_fails(&rt, 1)?;
+    assert_each_put_fails(&rt, 4)?;
+    assert_each_put_fails(&rt, 4096)
 }
 
 /// A call whose note is put in pieces of one byte.
@@ -149,11 +174,42 @@ struct NoteCase<'a> {
     note: &'a str,
 }
 
+/// Asserts that the put of a number that fails cuts the note off there and changes nothing else.
+fn assert_note_cut_off(
+    rt: &(impl Abort + AllocGlobal),
+    case: NoteCase<'_>,
+    number: usize,
+) -> Result<(), Fail>
+    requires { number ≤ length case.note.now }
+{
+    let files = [("a.sim", case.program), ("points.csv", case.table)];
+    let failing = Failing {
+        out: case.out,
+        notes: number as u64,
+        ..NONE_FAILS
+    };
+    let ended = call(rt.alloc(), case.words, &files, failing, 4096, 1)?;
+    let name = format!(in rt.alloc(); "put {number} of {}", case.note)?;
+    let note = &case.note.as_bytes()[..number];
+    assert_ended(rt, name.as_str(), &ended, case.status, b"", note);
+    Ok(())
+}
+
+/// Asserts the same of each put of the note, and that there is no further one.
+fn assert_each_note_put_fails(
+    rt: &(impl Abort + AllocGlobal),
+    case: NoteCase<'_>,
+) -> Result<(), Fail> {
+    for number in 0..=case.note.len() {
+        assert_note_cut_off(rt, case, number)?;
+    }
+    Ok(())
+}
+
 #[test]
-fn each_put_of_a_note_fails(rt: HostRuntime) -> Result<(), Fail> {
-    let mut over = Vec::new(rt.alloc());
-    over.resize(1_048_577, b'%')?;
-    let cases = [
+fn each_put_of_the_note_of_refused_words_fails(rt: HostRuntime) -> Result<(), Fail> {
+    assert_each_note_put_fails(
+        &rt,
         NoteCase {
             words: &["run"],
             program: PROGRAM,
@@ -162,6 +218,13 @@ fn each_put_of_a_note_fails(rt: HostRuntime) -> Result<(), Fail> {
             status: Status::Refused,
             note: "usage: simit run PROGRAM TABLE\n",
         },
+    )
+}
+
+#[test]
+fn each_put_of_the_note_of_a_read_fault_fails(rt: HostRuntime) -> Result<(), Fail> {
+    assert_each_note_put_fails(
+        &rt,
         NoteCase {
             words: &["run", "a.sim", "none.csv"],
             program: PROGRAM,
@@ -170,6 +233,15 @@ fn each_put_of_a_note_fails(rt: HostRuntime) -> Result<(), Fail> {
             status: Status::ReadFault,
             note: "read fault: none.csv\n",
         },
+    )
+}
+
+#[test]
+fn each_put_of_the_note_of_a_file_limit_fails(rt: HostRuntime) -> Result<(), Fail> {
+    let mut over = Vec::new(rt.alloc());
+    over.resize(1_048_577, b'%')?;
+    assert_each_note_put_fails(
+        &rt,
         NoteCase {
             words: &WORDS,
             program: &over,
@@ -178,6 +250,13 @@ fn each_put_of_a_note_fails(rt: HostRuntime) -> Result<(), Fail> {
             status: Status::Limit,
             note: "limit: a.sim is over 1048576 bytes\n",
         },
+    )
+}
+
+#[test]
+fn each_put_of_the_note_of_a_refused_program_fails(rt: HostRuntime) -> Result<(), Fail> {
+    assert_each_note_put_fails(
+        &rt,
         NoteCase {
             words: &WORDS,
             program: b"",
@@ -186,6 +265,13 @@ fn each_put_of_a_note_fails(rt: HostRuntime) -> Result<(), Fail> {
             status: Status::Refused,
             note: "refused: program\n",
         },
+    )
+}
+
+#[test]
+fn each_put_of_the_note_of_a_refused_table_fails(rt: HostRuntime) -> Result<(), Fail> {
+    assert_each_note_put_fails(
+        &rt,
         NoteCase {
             words: &WORDS,
             program: PROGRAM,
@@ -194,6 +280,13 @@ fn each_put_of_a_note_fails(rt: HostRuntime) -> Result<(), Fail> {
             status: Status::Refused,
             note: "refused: points.csv: table\n",
         },
+    )
+}
+
+#[test]
+fn each_put_of_the_note_of_a_write_fault_fails(rt: HostRuntime) -> Result<(), Fail> {
+    assert_each_note_put_fails(
+        &rt,
         NoteCase {
             words: &WORDS,
             program: PROGRAM,
@@ -202,20 +295,5 @@ fn each_put_of_a_note_fails(rt: HostRuntime) -> Result<(), Fail> {
             status: Status::WriteFault,
             note: "write fault\n",
         },
-    ];
-    for case in &cases {
-        let files = [("a.sim", case.program), ("points.csv", case.table)];
-        for number in 0..=case.note.len() {
-            let failing = Failing {
-                out: case.out,
-                notes: number as u64,
-                ..NONE_FAILS
-            };
-            let ended = call(rt.alloc(), case.words, &files, failing, 4096, 1)?;
-            let name = format!(in rt.alloc(); "put {number} of {}", case.note)?;
-            let note = &case.note.as_bytes()[..number];
-            assert_ended(&rt, name.as_str(), &ended, case.status, b"", note);
-        }
-    }
-    Ok(())
+    )
 }

@@ -1,12 +1,13 @@
 //! The limits on programs and tables, each at its last value and one past it.
-use super::calls::{assert_ended, call_over, program_text};
+use super::calls::{assert_over, program_text};
 use crate::Status;
 use std::alloc::{AllocError, Global};
+use std::process::Abort;
 use std::test::Fail;
 
-const REFUSED_PROGRAM: &str = "refused: program\n";
+const REFUSED_PROGRAM: &[u8] = b"refused: program\n";
 
-const REFUSED_TABLE: &str = "refused: points.csv: table\n";
+const REFUSED_TABLE: &[u8] = b"refused: points.csv: table\n";
 
 /// A front with a part behind it so many times.
 fn repeated(alloc: Global, front: &str, part: &str, times: u32) -> Result<String, AllocError> {
@@ -17,160 +18,195 @@ fn repeated(alloc: Global, front: &str, part: &str, times: u32) -> Result<String
     Ok(text)
 }
 
+/// Asserts how a call ends over a program with these fields and a table with their names alone.
+fn assert_fields(
+    rt: &(impl Abort + AllocGlobal),
+    fields: &str,
+    header: &str,
+    status: Status,
+    note: &[u8],
+) -> Result<(), Fail> {
+    let text = program_text(rt.alloc(), fields, "points.f0 = points.f0;")?;
+    let table = format!(in rt.alloc(); "{header}\n")?;
+    let whole = format!(in rt.alloc(); "set points\n{header}\n")?;
+    let out = if status == Status::Done {
+        whole.as_str()
+    } else {
+        ""
+    };
+    assert_over(
+        rt,
+        fields,
+        text.as_bytes(),
+        table.as_bytes(),
+        status,
+        out.as_bytes(),
+        note,
+    )
+}
+
+/// Adds the field of a number to the declarations and to the header.
+fn add_field(
+    alloc: Global,
+    fields: &mut String,
+    header: &mut String,
+    number: u32,
+) -> Result<(), AllocError> {
+    let field = format!(in alloc; "f{number}: int(0); ")?;
+    fields.push_str(field.as_str())?;
+    let comma = if number == 0 { "" } else { "," };
+    let heading = format!(in alloc; "{comma}f{number}")?;
+    header.push_str(heading.as_str())
+}
+
 #[test]
 fn at_most_32_fields(rt: HostRuntime) -> Result<(), Fail> {
     let mut fields = String::new(rt.alloc());
     let mut header = String::new(rt.alloc());
     for number in 0..33 {
-        let field = format!(in rt.alloc(); "f{number}: int(0); ")?;
-        fields.push_str(field.as_str())?;
-        let comma = if number == 0 { "" } else { "," };
-        let heading = format!(in rt.alloc(); "{comma}f{number}")?;
-        header.push_str(heading.as_str())?;
-
-        let text = program_text(rt.alloc(), fields.as_str(), "points.f0 = points.f0;")?;
-        let table = format!(in rt.alloc(); "{header}\n")?;
-        let ended = call_over(rt.alloc(), text.as_bytes(), table.as_bytes())?;
-        let (status, out, note) = if number < 32 {
-            let out = format!(in rt.alloc(); "set points\n{header}\n")?;
-            (Status::Done, out, "")
+        add_field(rt.alloc(), &mut fields, &mut header, number)?;
+        let (status, note) = if number < 32 {
+            (Status::Done, b"".as_slice())
         } else {
-            (Status::Refused, String::new(rt.alloc()), REFUSED_PROGRAM)
+            (Status::Refused, REFUSED_PROGRAM)
         };
-        assert_ended(
-            &rt,
-            fields.as_str(),
-            &ended,
-            status,
-            out.as_bytes(),
-            note.as_bytes(),
-        );
+        assert_fields(&rt, fields.as_str(), header.as_str(), status, note)?;
     }
     Ok(())
+}
+
+/// Asserts how a program of so many statements ends, each of which adds f to x.
+fn assert_statements(
+    rt: &(impl Abort + AllocGlobal),
+    times: u32,
+    status: Status,
+    out: &[u8],
+    note: &[u8],
+) -> Result<(), Fail> {
+    let statements = repeated(rt.alloc(), "", "points.x = points.x + points.f;", times)?;
+    let text = program_text(rt.alloc(), "x: int(0); f: int(0);", statements.as_str())?;
+    let case = format!(in rt.alloc(); "{times} statements")?;
+    assert_over(
+        rt,
+        case.as_str(),
+        text.as_bytes(),
+        b"x,f\n0,1\n",
+        status,
+        out,
+        note,
+    )
 }
 
 #[test]
 fn at_most_4096_statements(rt: HostRuntime) -> Result<(), Fail> {
-    let cases = [
-        (4096, Status::Done, "set points\nx,f\n4096,1\n", ""),
-        (4097, Status::Refused, "", REFUSED_PROGRAM),
-    ];
-    for (times, status, out, note) in cases {
-        let statements = repeated(rt.alloc(), "", "points.x = points.x + points.f;", times)?;
-        let text = program_text(rt.alloc(), "x: int(0); f: int(0);", statements.as_str())?;
-        let case = format!(in rt.alloc(); "{times} statements")?;
-        let ended = call_over(rt.alloc(), text.as_bytes(), b"x,f\n0,1\n")?;
-        assert_ended(
-            &rt,
-            case.as_str(),
-            &ended,
-            status,
-            out.as_bytes(),
-            note.as_bytes(),
-        );
-    }
-    Ok(())
+    assert_statements(&rt, 4096, Status::Done, b"set points\nx,f\n4096,1\n", b"")?;
+    assert_statements(&rt, 4097, Status::Refused, b"", REFUSED_PROGRAM)
+}
+
+/// Asserts how an assignment ends of this front and 16,376 further terms, of four tokens each.
+fn assert_sum(
+    rt: &(impl Abort + AllocGlobal),
+    front: &str,
+    status: Status,
+    out: &[u8],
+    note: &[u8],
+) -> Result<(), Fail> {
+    let sum = repeated(rt.alloc(), front, " + points.x", 16_376)?;
+    let statement = format!(in rt.alloc(); "{sum};")?;
+    let text = program_text(rt.alloc(), "x: int(0);", statement.as_str())?;
+    assert_over(rt, front, text.as_bytes(), b"x\n1\n", status, out, note)
 }
 
 #[test]
 fn at_most_65536_tokens(rt: HostRuntime) -> Result<(), Fail> {
-    // With 16,376 further terms, of four tokens each, the first has 65,536 tokens and the second one more.
-    let cases = [
-        (
-            "points.x = 2*points.x",
-            Status::Done,
-            "set points\nx\n16378\n",
-            "",
-        ),
-        (
-            "points.x = -2*points.x",
-            Status::Refused,
-            "",
-            REFUSED_PROGRAM,
-        ),
-    ];
-    for (front, status, out, note) in cases {
-        let sum = repeated(rt.alloc(), front, " + points.x", 16_376)?;
-        let statement = format!(in rt.alloc(); "{sum};")?;
-        let text = program_text(rt.alloc(), "x: int(0);", statement.as_str())?;
-        let ended = call_over(rt.alloc(), text.as_bytes(), b"x\n1\n")?;
-        assert_ended(&rt, front, &ended, status, out.as_bytes(), note.as_bytes());
-    }
-    Ok(())
+    // The first has 65,536 tokens, and the second one more.
+    let out = b"set points\nx\n16378\n";
+    assert_sum(&rt, "points.x = 2*points.x", Status::Done, out, b"")?;
+    assert_sum(
+        &rt,
+        "points.x = -2*points.x",
+        Status::Refused,
+        b"",
+        REFUSED_PROGRAM,
+    )
+}
+
+/// Asserts how a call ends over a program that is filled up to a size by `%`.
+fn assert_filled_program(
+    rt: &(impl Abort + AllocGlobal),
+    front: &str,
+    size: usize,
+    status: Status,
+    out: &[u8],
+    note: &[u8],
+) -> Result<(), Fail> {
+    let mut bytes = front.as_bytes().to_vec(rt.alloc())?;
+    bytes.resize(size, b'%')?;
+    let case = format!(in rt.alloc(); "{front} filled up to {size} bytes")?;
+    assert_over(rt, case.as_str(), &bytes, b"x\n1\n", status, out, note)
 }
 
 #[test]
 fn at_most_1048576_bytes_of_a_program(rt: HostRuntime) -> Result<(), Fail> {
     let whole = program_text(rt.alloc(), "x: int(0);", "points.x = -points.x;")?;
-    let out = "set points\nx\n-1\n";
-    let limit = "limit: a.sim is over 1048576 bytes\n";
-    let cases = [
-        (whole.as_str(), 1_048_576, Status::Done, out, ""),
-        (whole.as_str(), 1_048_577, Status::Limit, "", limit),
-        ("", 1_048_576, Status::Refused, "", REFUSED_PROGRAM),
-        ("", 1_048_577, Status::Limit, "", limit),
-        ("", 3_000_000, Status::Limit, "", limit),
-    ];
-    for (front, size, status, out, note) in cases {
-        let mut bytes = front.as_bytes().to_vec(rt.alloc())?;
-        bytes.resize(size, b'%')?;
-        let case = format!(in rt.alloc(); "{front} filled up to {size} bytes")?;
-        let ended = call_over(rt.alloc(), &bytes, b"x\n1\n")?;
-        assert_ended(
-            &rt,
-            case.as_str(),
-            &ended,
-            status,
-            out.as_bytes(),
-            note.as_bytes(),
-        );
-    }
-    Ok(())
+    let whole = whole.as_str();
+    let out = b"set points\nx\n-1\n";
+    let limit = b"limit: a.sim is over 1048576 bytes\n";
+    assert_filled_program(&rt, whole, 1_048_576, Status::Done, out, b"")?;
+    assert_filled_program(&rt, whole, 1_048_577, Status::Limit, b"", limit)?;
+    assert_filled_program(&rt, "", 1_048_576, Status::Refused, b"", REFUSED_PROGRAM)?;
+    assert_filled_program(&rt, "", 1_048_577, Status::Limit, b"", limit)?;
+    assert_filled_program(&rt, "", 3_000_000, Status::Limit, b"", limit)
+}
+
+/// Asserts how a call ends over a table that is filled up to a size by line feeds.
+fn assert_filled_table(
+    rt: &(impl Abort + AllocGlobal),
+    size: usize,
+    status: Status,
+    out: &[u8],
+    note: &[u8],
+) -> Result<(), Fail> {
+    let text = program_text(rt.alloc(), "x: int(0);", "points.x = -points.x;")?;
+    let mut bytes = b"x\n1\n".to_vec(rt.alloc())?;
+    bytes.resize(size, b'\n')?;
+    let case = format!(in rt.alloc(); "{size} bytes")?;
+    assert_over(
+        rt,
+        case.as_str(),
+        text.as_bytes(),
+        &bytes,
+        status,
+        out,
+        note,
+    )
 }
 
 #[test]
 fn at_most_67108864_bytes_of_a_table(rt: HostRuntime) -> Result<(), Fail> {
-    let text = program_text(rt.alloc(), "x: int(0);", "points.x = -points.x;")?;
-    let limit = "limit: points.csv is over 67108864 bytes\n";
-    let cases = [
-        (67_108_864, Status::Done, "set points\nx\n-1\n", ""),
-        (67_108_865, Status::Limit, "", limit),
-    ];
-    for (size, status, out, note) in cases {
-        let mut bytes = b"x\n1\n".to_vec(rt.alloc())?;
-        bytes.resize(size, b'\n')?;
-        let case = format!(in rt.alloc(); "{size} bytes")?;
-        let ended = call_over(rt.alloc(), text.as_bytes(), &bytes)?;
-        assert_ended(
-            &rt,
-            case.as_str(),
-            &ended,
-            status,
-            out.as_bytes(),
-            note.as_bytes(),
-        );
-    }
-    Ok(())
+    let limit = b"limit: points.csv is over 67108864 bytes\n";
+    let out = b"set points\nx\n-1\n";
+    assert_filled_table(&rt, 67_108_864, Status::Done, out, b"")?;
+    assert_filled_table(&rt, 67_108_865, Status::Limit, b"", limit)
+}
+
+/// Asserts how a call ends over a table of so many rows, whose one field is tripled.
+fn assert_rows(
+    rt: &(impl Abort + AllocGlobal),
+    times: u32,
+    status: Status,
+    out: &[u8],
+    note: &[u8],
+) -> Result<(), Fail> {
+    let text = program_text(rt.alloc(), "x: int(0);", "points.x = 3*points.x;")?;
+    let table = repeated(rt.alloc(), "x\n", "1\n", times)?;
+    let (text, table) = (text.as_bytes(), table.as_bytes());
+    assert_over(rt, "rows", text, table, status, out, note)
 }
 
 #[test]
 fn at_most_1048576_rows(rt: HostRuntime) -> Result<(), Fail> {
-    let text = program_text(rt.alloc(), "x: int(0);", "points.x = 3*points.x;")?;
-    let mut table = repeated(rt.alloc(), "x\n", "1\n", 1_048_576)?;
     let out = repeated(rt.alloc(), "set points\nx\n", "3\n", 1_048_576)?;
-    let ended = call_over(rt.alloc(), text.as_bytes(), table.as_bytes())?;
-    assert_eq!(rt; ended.status, Status::Done);
-    assert!(rt; ended.out.bytes() == out.as_bytes());
-
-    table.push_str("1\n")?;
-    let ended = call_over(rt.alloc(), text.as_bytes(), table.as_bytes())?;
-    assert_ended(
-        &rt,
-        "a row more",
-        &ended,
-        Status::Refused,
-        b"",
-        REFUSED_TABLE.as_bytes(),
-    );
-    Ok(())
+    assert_rows(&rt, 1_048_576, Status::Done, out.as_bytes(), b"")?;
+    assert_rows(&rt, 1_048_577, Status::Refused, b"", REFUSED_TABLE)
 }

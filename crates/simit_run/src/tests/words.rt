@@ -1,32 +1,27 @@
 //! Command words, the names of files, and the numbers of the statuses.
 use super::calls::{NONE_FAILS, assert_ended, call};
 use crate::Status;
+use std::process::Abort;
 use std::test::Fail;
 
 const PROGRAM: &[u8] =
     b"element Point x: int(0); end extern points: set{Point}; proc main points.x = points.x + points.x; end";
 
-#[test]
-fn words_that_are_no_command(rt: HostRuntime) -> Result<(), Fail> {
-    let cases: [&[&str]; 17] = [
-        &[],
-        &[""],
-        &["run"],
-        &["run", "a.sim"],
-        &["run", "a.sim", "points.csv", "points.csv"],
-        &["run", "a.sim", "points.csv", ""],
-        &["plan", "a.sim", "points.csv"],
-        &["Run", "a.sim", "points.csv"],
-        &["run ", "a.sim", "points.csv"],
-        &["", "a.sim", "points.csv"],
-        &["a.sim", "run", "points.csv"],
-        &["run", "", "points.csv"],
-        &["run", "a.sim", ""],
-        &["run", "-a.sim", "points.csv"],
-        &["run", "a.sim", "-points.csv"],
-        &["run", "-", "points.csv"],
-        &["run", "a.sim", "-"],
-    ];
+/// Asserts that words are no command over these files.
+fn assert_usage(
+    rt: &(impl Abort + AllocGlobal),
+    words: &[&str],
+    files: &[(&str, &[u8])],
+) -> Result<(), Fail> {
+    let ended = call(rt.alloc(), words, files, NONE_FAILS, 4096, 4096)?;
+    let case = format!(in rt.alloc(); "{words:?}")?;
+    let note = b"usage: simit run PROGRAM TABLE\n";
+    assert_ended(rt, case.as_str(), &ended, Status::Refused, b"", note);
+    Ok(())
+}
+
+/// Asserts that words are no command, though there are files of all their names.
+fn assert_no_command(rt: &(impl Abort + AllocGlobal), cases: &[&[&str]]) -> Result<(), Fail> {
     let files = [
         ("", PROGRAM),
         ("-", PROGRAM),
@@ -35,71 +30,102 @@ fn words_that_are_no_command(rt: HostRuntime) -> Result<(), Fail> {
         ("points.csv", b"x\n1\n".as_slice()),
     ];
     for words in cases {
-        let ended = call(rt.alloc(), words, &files, NONE_FAILS, 4096, 4096)?;
-        let case = format!(in rt.alloc(); "{words:?}")?;
-        let note = "usage: simit run PROGRAM TABLE\n";
-        assert_ended(
-            &rt,
-            case.as_str(),
-            &ended,
-            Status::Refused,
-            b"",
-            note.as_bytes(),
-        );
+        assert_usage(rt, words, &files)?;
     }
     Ok(())
 }
 
 #[test]
+fn words_that_are_no_command(rt: HostRuntime) -> Result<(), Fail> {
+    assert_no_command(
+        &rt,
+        &[
+            &[],
+            &[""],
+            &["run"],
+            &["run", "a.sim"],
+            &["run", "a.sim", "points.csv", "points.csv"],
+            &["run", "a.sim", "points.csv", ""],
+            &["plan", "a.sim", "points.csv"],
+            &["Run", "a.sim", "points.csv"],
+            &["run ", "a.sim", "points.csv"],
+            &["", "a.sim", "points.csv"],
+            &["a.sim", "run", "points.csv"],
+            &["run", "", "points.csv"],
+            &["run", "a.sim", ""],
+            &["run", "-a.sim", "points.csv"],
+            &["run", "a.sim", "-points.csv"],
+            &["run", "-", "points.csv"],
+            &["run", "a.sim", "-"],
+        ],
+    )
+}
+
+/// Asserts that a call with these words and files ends as the file of a name is missing.
+fn assert_missing(
+    rt: &(impl Abort + AllocGlobal),
+    words: &[&str],
+    files: &[(&str, &[u8])],
+    name: &str,
+) -> Result<(), Fail> {
+    let case = format!(in rt.alloc(); "{words:?}")?;
+    let note = format!(in rt.alloc(); "read fault: {name}\n")?;
+    let ended = call(rt.alloc(), words, files, NONE_FAILS, 4096, 4096)?;
+    assert_ended(
+        rt,
+        case.as_str(),
+        &ended,
+        Status::ReadFault,
+        b"",
+        note.as_bytes(),
+    );
+    Ok(())
+}
+
+/// Asserts how calls end that name two files: with both there, with none, and with one of them.
+fn assert_files_named<'a>(
+    rt: &(impl Abort + AllocGlobal),
+    program: &'a str,
+    table: &'a str,
+) -> Result<(), Fail> {
+    let words = ["run", program, table];
+    let both = [(table, b"x\n1\n".as_slice()), (program, PROGRAM)];
+    let ended = call(rt.alloc(), &words, &both, NONE_FAILS, 4096, 4096)?;
+    assert_ended(
+        rt,
+        program,
+        &ended,
+        Status::Done,
+        b"set points\nx\n2\n",
+        b"",
+    );
+    assert_missing(rt, &words, &[], program)?;
+    assert_missing(rt, &words, &both[..1], program)?;
+    assert_missing(rt, &words, &both[1..], table)
+}
+
+#[test]
 fn any_other_words_name_files(rt: HostRuntime) -> Result<(), Fail> {
-    let cases = [
-        ("a.sim", "points.csv"),
-        ("run", "a-b"),
-        (" -a", "a--"),
-        ("dir/a b.sim", "caf\u{e9}\n"),
-        (".", "\u{0}"),
-    ];
-    for (program, table) in cases {
-        let words = ["run", program, table];
-        let case = format!(in rt.alloc(); "{words:?}")?;
-        let case = case.as_str();
+    assert_files_named(&rt, "a.sim", "points.csv")?;
+    assert_files_named(&rt, "run", "a-b")?;
+    assert_files_named(&rt, " -a", "a--")?;
+    assert_files_named(&rt, "dir/a b.sim", "caf\u{e9}\n")?;
+    assert_files_named(&rt, ".", "\u{0}")
+}
 
-        let both = [(table, b"x\n1\n".as_slice()), (program, PROGRAM)];
-        let ended = call(rt.alloc(), &words, &both, NONE_FAILS, 4096, 4096)?;
-        assert_ended(&rt, case, &ended, Status::Done, b"set points\nx\n2\n", b"");
-
-        let note = format!(in rt.alloc(); "read fault: {program}\n")?;
-        for files in [[].as_slice(), &both[..1]] {
-            let ended = call(rt.alloc(), &words, files, NONE_FAILS, 4096, 4096)?;
-            assert_ended(&rt, case, &ended, Status::ReadFault, b"", note.as_bytes());
-        }
-
-        let note = format!(in rt.alloc(); "read fault: {table}\n")?;
-        let ended = call(rt.alloc(), &words, &both[1..], NONE_FAILS, 4096, 4096)?;
-        assert_ended(&rt, case, &ended, Status::ReadFault, b"", note.as_bytes());
-    }
+/// Asserts how a call ends that names one file twice.
+fn assert_named_twice(rt: &(impl Abort + AllocGlobal), name: &str, note: &str) -> Result<(), Fail> {
+    let files = [("a.sim", PROGRAM), ("points.csv", b"x\n1\n".as_slice())];
+    let words = ["run", name, name];
+    let ended = call(rt.alloc(), &words, &files, NONE_FAILS, 4096, 4096)?;
+    assert_ended(rt, name, &ended, Status::Refused, b"", note.as_bytes());
     Ok(())
 }
 
 #[test]
 fn one_file_named_twice(rt: HostRuntime) -> Result<(), Fail> {
-    let files = [("a.sim", PROGRAM), ("points.csv", b"x\n1\n".as_slice())];
-    let cases = [
-        ("a.sim", "refused: a.sim: table\n"),
-        ("points.csv", "refused: program\n"),
-    ];
-    for (name, note) in cases {
-        let ended = call(
-            rt.alloc(),
-            &["run", name, name],
-            &files,
-            NONE_FAILS,
-            4096,
-            4096,
-        )?;
-        assert_ended(&rt, name, &ended, Status::Refused, b"", note.as_bytes());
-    }
-    Ok(())
+    assert_named_twice(&rt, "a.sim", "refused: a.sim: table\n")?;
+    assert_named_twice(&rt, "points.csv", "refused: program\n")
 }
 
 #[test]
