@@ -1,0 +1,2 @@
+pub mod AddingSums
+pub mod Scopes

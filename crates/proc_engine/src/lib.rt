@@ -1,0 +1,11 @@
+//! Runs programs over sets, on one thread and in the order of the elements.
+#![tactic(auto)]
+
+mod assembly;
+mod assignment;
+mod execution;
+mod expression;
+#[cfg(test)]
+mod tests;
+
+pub use execution::execute;
