@@ -1,0 +1,9 @@
+pub mod Starts
+pub mod Agree
+pub mod ExpressionsAgree
+pub mod StatementsAgree
+pub mod DeclarationsAgree
+pub mod Law
+pub mod Repeat
+pub mod Makers
+pub mod Rooms
