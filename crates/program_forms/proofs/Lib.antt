@@ -1,0 +1,4 @@
+pub mod Folds
+pub mod StepsMore
+pub mod Formed
+pub mod Nodes
