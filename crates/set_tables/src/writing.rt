@@ -30,7 +30,8 @@ pub fn write_table(schema: &Schema, sets: &Sets, set: u32, to: &mut Vec<u8>)
     requires set { set < length sets.now }
     requires fits { Fits schema.now (set_at sets.now set) }
     requires room { vec_len to.old + length (table_text schema.now (set_at sets.now set)) ≤ vec_capacity to.old }
-    ensures { to.new.items ≡ to.old.items ++ table_text schema.now (set_at sets.now set) }
+    ensures written { to.new.items ≡ to.old.items ++ table_text schema.now (set_at sets.now set) }
+    ensures room_kept { vec_capacity to.old ≤ vec_capacity to.new }
 {
     write_name(schema.name.as_str(), to);
     write_header(schema, to);

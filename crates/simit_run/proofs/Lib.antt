@@ -1,12 +1,8 @@
-pub mod Assigned
-pub mod Blocks
-pub mod Repeat
+pub mod Runnable
+pub mod WordsRead
 pub mod Puts
+pub mod Texts
+pub mod SetsRead
 pub mod Stages
+pub mod TablesRead
 pub mod Endings
-pub mod Grammar
-pub mod GrammarNames
-pub mod GrammarSound
-pub mod GrammarComplete
-pub mod GrammarLaw
-pub mod GrammarNumbers

@@ -1,27 +1,24 @@
 -- How stages follow one another.
-use Rattle.std.proofs.Common.{◌≡◌, ℕ, ◌≤◌, ◌<◌, ◌^◌, List, [], ◌∷◌, length, get_or, Option, None, Some, Result, Ok, Err, refl, arith}
+use Rattle.std.proofs.Common.{eq-eqb, eqb-true, Bool, true, false, ◌≡◌, ℕ, ◌≤◌, ◌<◌, ◌+◌, List, [], ◌∷◌, ◌++◌, length, Option, None, Some, Result, Ok, Err, refl, arith}
 use Rattle.std.specs.Option.{ok_or}
 use Rattle.simit_io.specs.Inputs.{Rose}
-use Rattle.std.specs.Prelude.{IfSome, Contains, All}
-use Rattle.std.proofs.lemmas.List.Elements.{All-map, Contains-append_left, Contains-append_right}
+use Rattle.std.specs.Prelude.{◌==◌, IfSome, Contains, if◌then◌else◌}
+use Rattle.std.specs.List.{zip}
+use Rattle.std.proofs.lemmas.List.Elements.{Contains-append_left, Contains-append_right}
 use mathlib.Core.Logic.{inl, inr}
 use Rattle.simit_io.specs.Inputs.{Files}
 use Rattle.hypergraph.specs.SetShape.{SetShape}
+use Rattle.hypergraph.specs.Sets.{count_over}
 use Rattle.set_tables.specs.Table.{table_set}
-use Rattle.set_tables.specs.declared.schema.Column.{Column}
-use Rattle.simit_run.specs.Answer.{◌>>=◌, Command, command_of, file_stage, first_answer, reads, output_of, program_stage, reads_after, reads_of, run_stage, schema_of, table_stage}
-use Rattle.simit_run.specs.Meaning.{AreOver}
-use Rattle.simit_run.specs.Reading.{program_of}
-use Rattle.simit_run.specs.Stages.{Stops, IsRunnable}
-use Rattle.simit_run.specs.declared.program.Program.{Program}
+use Rattle.global_algebra.specs.declared.program.Program.{Program}
+use Rattle.simit_run.specs.Answer.{◌>>=◌, Command, Named, behind, command_of, file_stage, first_answer, names_stage, output_of, program_stage, reads, reads_of, run_reads, run_stage, schema_of, set_stage, sets_reads, sets_stage, tables_reads, tables_stage}
+use Rattle.simit_run.specs.Front.{program_of}
+use Rattle.simit_run.specs.Stages.{Shows, Stops}
 use Rattle.simit_run.specs.declared.stop.Place.{Place}
 use Rattle.simit_run.specs.declared.stop.Place.TheVariants as place
 use Rattle.simit_run.specs.declared.stop.Refusal.TheVariants as refusal
 use Rattle.simit_run.specs.declared.stop.Stop.{Stop}
 use Rattle.simit_run.specs.declared.stop.Stop.TheVariants.{Memory, ReadFault, Other}
-
-abbrev column_of : List ℕ → Column
-column_of field = record { heading = field; scale = 0 }
 
 -- the first of two stages stops
 pub stops_first : {Y W : Type 0} (told : Option Files) (rose rose2 : Type 0) (stage : Files → Result Y Stop) (next : Files → Y → Result W Stop) (reads reads2 : Files → List Place) (stop : Stop)
@@ -51,7 +48,19 @@ pub gives_both : {Y W : Type 0} (told : Option Files) (stage : Files → Result 
 gives_both None stage next y w first second = tt
 gives_both (Some files) stage next y w first second = rw first second
 
--- ---- a file that is not read
+-- a value that needs no file
+pub gives : {Y : Type 0} (told : Option Files) (stage : Files → Result Y Stop) (y : Y) → ((files : Files) → stage files ≡ Ok y) → IfSome told (λ files. stage files ≡ Ok y)
+gives None stage y h = tt
+gives (Some files) stage y h = h files
+
+-- among the first place and those behind it
+first_place : (p q : Place) (ps : List Place) → Contains (p ∷ []) q → Contains (p ∷ ps) q
+first_place p q ps w = Contains-append_left (p ∷ []) ps q w
+
+later_place : (p q : Place) (ps : List Place) → Contains ps q → Contains (p ∷ ps) q
+later_place p q ps w = Contains-append_right (p ∷ []) ps q w
+
+-- ---- what the program's file states
 
 pub program_stops : (told : Option Files) (rose : Type 0) (name : List ℕ) (stop : Stop) → Stops told rose (λ files. file_stage place.Program (files name)) (λ files. place.Program ∷ []) stop
     → Stops told rose (program_stage name) (λ files. place.Program ∷ []) stop
@@ -59,47 +68,152 @@ unfolding program_stage
 program_stops told rose name stop h =
     stops_first told rose rose (λ files. file_stage place.Program (files name)) (λ files source. ok_or (program_of source) (Other refusal.Program)) (λ files. place.Program ∷ []) (λ files. place.Program ∷ []) stop (λ r. r) (λ files p w. w) h
 
-pub table_stops : (told : Option Files) (rose : Type 0) (name : List ℕ) (program : Program) (stop : Stop) → Stops told rose (λ files. file_stage place.Table (files name)) (λ files. place.Table ∷ []) stop
-    → Stops told rose (table_stage name program) (λ files. place.Table ∷ []) stop
-unfolding table_stage
-table_stops told rose name program stop h =
-    stops_first told rose rose (λ files. file_stage place.Table (files name)) (λ files bytes. ok_or (table_set (schema_of program) None 0 bytes) (Other refusal.Table)) (λ files. place.Table ∷ []) (λ files. place.Table ∷ []) stop (λ r. r) (λ files p w. w) h
+pub program_given : (told : Option Files) (name bytes : List ℕ) (program : Program) → IfSome told (λ files. file_stage place.Program (files name) ≡ Ok bytes) → program_of bytes ≡ Some program
+    → IfSome told (λ files. program_stage name files ≡ Ok program)
+unfolding program_stage
+program_given None name bytes program h e = tt
+program_given (Some files) name bytes program h e = rw (h, e) refl
+
+pub program_refused : (told : Option Files) (name bytes : List ℕ) → IfSome told (λ files. file_stage place.Program (files name) ≡ Ok bytes) → program_of bytes ≡ None
+    → IfSome told (λ files. program_stage name files ≡ Err (Other refusal.Program))
+unfolding program_stage
+program_refused None name bytes h e = tt
+program_refused (Some files) name bytes h e = rw (h, e) refl
+
+-- ---- what a table's file states
+
+module _ (told : Option Files) (named : Named) (sets : List SetShape) where
+  abbrev table : Place
+  table = place.Table (length sets)
+
+  pub set_stops : (rose : Type 0) (stop : Stop) → Stops told rose (λ files. file_stage (place.Table (length sets)) (files named.1)) (λ files. place.Table (length sets) ∷ []) stop
+      → Stops told rose (set_stage named sets) (λ files. place.Table (length sets) ∷ []) stop
+  unfolding set_stage
+  set_stops rose stop h =
+      stops_first told rose rose (λ files. file_stage table (files named.1)) (λ files bytes. ok_or (table_set (schema_of named.0) named.0.over (count_over sets named.0.over) bytes) (Other (refusal.Table (length sets))))
+      (λ files. table ∷ []) (λ files. table ∷ []) stop (λ r. r) (λ files p w. w) h
+
+  pub set_given : (bytes : List ℕ) (set : SetShape) → IfSome told (λ files. file_stage (place.Table (length sets)) (files named.1) ≡ Ok bytes) → table_set (schema_of named.0) named.0.over (count_over sets named.0.over) bytes ≡ Some set
+      → IfSome told (λ files. set_stage named sets files ≡ Ok set)
+  unfolding set_stage
+  set_given bytes set h e = at told h
+    where
+      at : (told : Option Files) → IfSome told (λ files. file_stage (place.Table (length sets)) (files named.1) ≡ Ok bytes) → IfSome told (λ files. set_stage named sets files ≡ Ok set)
+      at None h = tt
+      at (Some files) h = rw (h, e) refl
+
+  pub set_refused : (bytes : List ℕ) → IfSome told (λ files. file_stage (place.Table (length sets)) (files named.1) ≡ Ok bytes) → table_set (schema_of named.0) named.0.over (count_over sets named.0.over) bytes ≡ None
+      → IfSome told (λ files. set_stage named sets files ≡ Err (Other (refusal.Table (length sets))))
+  unfolding set_stage
+  set_refused bytes h e = at told h
+    where
+      at : (told : Option Files) → IfSome told (λ files. file_stage (place.Table (length sets)) (files named.1) ≡ Ok bytes) → IfSome told (λ files. set_stage named sets files ≡ Err (Other (refusal.Table (length sets))))
+      at None h = tt
+      at (Some files) h = rw (h, e) refl
+
+-- ---- one table after the other
+
+-- no table is left
+pub sets_end : (told : Option Files) (sets : List SetShape) → IfSome told (λ files. sets_stage [] sets files ≡ Ok sets)
+unfolding sets_stage
+sets_end told sets = gives told (sets_stage [] sets) sets (λ files. refl)
+
+module _ (told : Option Files) (before mid now : ℕ) (named : Named) (others : List Named) (sets : List SetShape) where
+  abbrev next : Files → SetShape → Result (List SetShape) Stop
+  next files set = sets_stage others (sets ++ set ∷ []) files
+
+  abbrev further : Files → SetShape → List Place
+  further files set = sets_reads others (sets ++ set ∷ []) files
+
+  -- the next table stops
+  pub sets_stop_first : (stop : Stop) → mid ≤ now → Stops told (Rose before mid) (set_stage named sets) (λ files. place.Table (length sets) ∷ []) stop
+      → Stops told (Rose before now) (sets_stage (named ∷ others) sets) (sets_reads (named ∷ others) sets) stop
+  unfolding sets_stage sets_reads
+  sets_stop_first stop le h =
+      stops_first told (Rose before mid) (Rose before now) (set_stage named sets) next (λ files. place.Table (length sets) ∷ []) (sets_reads (named ∷ others) sets) stop (λ r. omega arith)
+      (λ files p w. first_place (place.Table (length sets)) p (behind (set_stage named sets files) (further files)) w) h
+
+  -- one behind it does, or all are read
+  pub sets_rest : {X : Type 0} (view : X → List SetShape) (set : SetShape) (result : Result X Stop) → before ≤ mid → IfSome told (λ files. set_stage named sets files ≡ Ok set)
+      → Shows view told (Rose mid now) (sets_stage others (sets ++ set ∷ [])) (sets_reads others (sets ++ set ∷ [])) result
+      → Shows view told (Rose before now) (sets_stage (named ∷ others) sets) (sets_reads (named ∷ others) sets) result
+  unfolding sets_stage sets_reads
+  sets_rest view set (Ok x) le first h = gives_both told (set_stage named sets) next set (view x) first h
+  sets_rest view set (Err stop) le first h =
+      stops_second told (Rose mid now) (Rose before now) (set_stage named sets) next (sets_reads others (sets ++ set ∷ [])) (sets_reads (named ∷ others) sets) set stop (λ r. omega arith) first
+      (λ files p e w. later_place (place.Table (length sets)) p (behind (set_stage named sets files) (further files)) (rw e w)) h
+
+-- ---- the program on its tables
+
+-- another number of tables than of sets, and as many
+pub names_differ : (program : Program) (tables : List (List ℕ)) → ((length tables ≡ length program.sets) → ⊥) → names_stage program tables ≡ Err (Other (refusal.Files (length tables) (length program.sets)))
+unfolding names_stage
+names_differ program tables ne = by (length tables == length program.sets) refl
+  where
+    by : (b : Bool) → (length tables == length program.sets) ≡ b
+        → (if b then Ok (zip program.sets tables) else Err (Other (refusal.Files (length tables) (length program.sets)))) ≡ Err (Other (refusal.Files (length tables) (length program.sets)))
+    by true t = absurd (ne (eqb-true (length tables) (length program.sets) t))
+    by false t = refl
+
+pub names_given : (program : Program) (tables : List (List ℕ)) → length tables ≡ length program.sets → names_stage program tables ≡ Ok (zip program.sets tables)
+unfolding names_stage
+names_given program tables e = rw (eq-eqb (length tables) (length program.sets) e) refl
+
+module _ (told : Option Files) (before now : ℕ) (program : Program) (tables : List (List ℕ)) where
+  abbrev on_names : Files → List Named → Result (List ℕ) Stop
+  on_names files named = sets_stage named [] files >>= λ sets. Ok (output_of program sets)
+
+  -- another number of tables
+  pub names_refused : names_stage program tables ≡ Err (Other (refusal.Files (length tables) (length program.sets)))
+      → IfSome told (λ files. tables_stage program tables files ≡ Err (Other (refusal.Files (length tables) (length program.sets))))
+  unfolding tables_stage
+  names_refused e = at told
+    where
+      at : (told : Option Files) → IfSome told (λ files. tables_stage program tables files ≡ Err (Other (refusal.Files (length tables) (length program.sets))))
+      at None = tt
+      at (Some files) = rw e refl
+
+  -- a table stops
+  pub tables_stop : (named : List Named) (stop : Stop) → names_stage program tables ≡ Ok named → Stops told (Rose before now) (sets_stage named []) (sets_reads named []) stop
+      → Stops told (Rose before now) (tables_stage program tables) (tables_reads program tables) stop
+  unfolding tables_stage tables_reads
+  tables_stop named stop e h =
+      stops_second told (Rose before now) (Rose before now) (λ files. names_stage program tables) on_names (sets_reads named []) (tables_reads program tables) named stop (λ r. r)
+      (gives told (λ files. names_stage program tables) named (λ files. e)) (λ files p g w. rw e w)
+      (stops_first told (Rose before now) (Rose before now) (sets_stage named []) (λ files sets. Ok (output_of program sets)) (sets_reads named []) (sets_reads named []) stop (λ r. r) (λ files p w. w) h)
+
+  -- all are read
+  pub tables_give : (named : List Named) (sets : List SetShape) → names_stage program tables ≡ Ok named → IfSome told (λ files. sets_stage named [] files ≡ Ok sets)
+      → IfSome told (λ files. tables_stage program tables files ≡ Ok (output_of program sets))
+  unfolding tables_stage
+  tables_give named sets e h =
+      gives_both told (λ files. names_stage program tables) on_names named (output_of program sets) (gives told (λ files. names_stage program tables) named (λ files. e))
+      (gives_both told (sets_stage named []) (λ files sets. Ok (output_of program sets)) sets (output_of program sets) h (gives told (λ files. Ok (output_of program sets)) (output_of program sets) (λ files. refl)))
 
 -- ---- the whole command
 
 module _ (told : Option Files) (before mid now : ℕ) (command : Command) where
-  -- the table's stage behind the program's
-  abbrev behind : Files → Program → Result (List ℕ) Stop
-  behind files program = table_stage command.table program files >>= λ set. Ok (output_of program set)
+  abbrev on_tables : Files → Program → Result (List ℕ) Stop
+  on_tables files program = tables_stage program command.tables files
+
+  abbrev tables_behind : Files → Program → List Place
+  tables_behind files program = tables_reads program command.tables files
 
   pub command_stops_first : (stop : Stop) → mid ≤ now → Stops told (Rose before mid) (program_stage command.program) (λ files. place.Program ∷ []) stop
-      → Stops told (Rose before now) (run_stage command) (reads_of (Some command)) stop
-  unfolding run_stage
+      → Stops told (Rose before now) (run_stage command) (run_reads command) stop
+  unfolding run_stage run_reads
   command_stops_first stop le h =
-      stops_first told (Rose before mid) (Rose before now) (program_stage command.program) behind (λ files. place.Program ∷ []) (reads_of (Some command)) stop (λ r. omega arith) (λ files p w. among files p (program_stage command.program files) w) h
-    where
-      among : (files : Files) (p : Place) (r : Result Program Stop) → Contains (place.Program ∷ []) p → Contains (reads_after r) p
-      among files p (Ok program) w = Contains-append_left (place.Program ∷ []) (place.Table ∷ []) p w
-      among files p (Err stop) w = w
+      stops_first told (Rose before mid) (Rose before now) (program_stage command.program) on_tables (λ files. place.Program ∷ []) (run_reads command) stop (λ r. omega arith)
+      (λ files p w. first_place place.Program p (behind (program_stage command.program files) (tables_behind files)) w) h
 
-  pub command_stops_second : (program : Program) (stop : Stop) → before ≤ mid → IfSome told (λ files. program_stage command.program files ≡ Ok program)
-      → Stops told (Rose mid now) (table_stage command.table program) (λ files. place.Table ∷ []) stop
-      → Stops told (Rose before now) (run_stage command) (reads_of (Some command)) stop
-  unfolding run_stage
-  command_stops_second program stop le first h =
-      stops_second told (Rose mid now) (Rose before now) (program_stage command.program) behind (λ files. place.Table ∷ []) (reads_of (Some command)) program stop (λ r. omega arith) first (λ files p e w. rw e (Contains-append_right (place.Program ∷ []) (place.Table ∷ []) p w))
-      (stops_first told (Rose mid now) (Rose mid now) (table_stage command.table program) (λ files set. Ok (output_of program set)) (λ files. place.Table ∷ []) (λ files. place.Table ∷ []) stop (λ r. r) (λ files p w. w) h)
-
-  pub command_gives : (program : Program) (set : SetShape) → IfSome told (λ files. program_stage command.program files ≡ Ok program) → IfSome told (λ files. table_stage command.table program files ≡ Ok set)
-      → IfSome told (λ files. run_stage command files ≡ Ok (output_of program set))
-  unfolding run_stage
-  command_gives program set first second =
-      gives_both told (program_stage command.program) behind program (output_of program set) first
-      (gives_both told (table_stage command.table program) (λ files set. Ok (output_of program set)) set (output_of program set) second (same told))
-    where
-      same : (told : Option Files) → IfSome told (λ files. ◌≡◌ {A = Result (List ℕ) Stop} (Ok (output_of program set)) (Ok (output_of program set)))
-      same None = tt
-      same (Some files) = refl
+  pub command_rest : {X : Type 0} (view : X → List ℕ) (program : Program) (result : Result X Stop) → before ≤ mid → IfSome told (λ files. program_stage command.program files ≡ Ok program)
+      → Shows view told (Rose mid now) (tables_stage program command.tables) (tables_reads program command.tables) result
+      → Shows view told (Rose before now) (run_stage command) (run_reads command) result
+  unfolding run_stage run_reads
+  command_rest view program (Ok x) le first h = gives_both told (program_stage command.program) on_tables program (view x) first h
+  command_rest view program (Err stop) le first h =
+      stops_second told (Rose mid now) (Rose before now) (program_stage command.program) on_tables (tables_reads program command.tables) (run_reads command) program stop (λ r. omega arith) first
+      (λ files p e w. later_place place.Program p (behind (program_stage command.program files) (tables_behind files)) (rw e w)) h
 
 -- ---- the words
 
@@ -122,43 +236,3 @@ pub answer_gives : (told : Option Files) (words : List (List ℕ)) (command : Co
 unfolding first_answer
 answer_gives None words command text e h = tt
 answer_gives (Some files) words command text e h = rw e h
-
--- ---- what the two files state
-
-pub program_given : (told : Option Files) (name bytes : List ℕ) (program : Program) → IfSome told (λ files. file_stage place.Program (files name) ≡ Ok bytes) → program_of bytes ≡ Some program
-    → IfSome told (λ files. program_stage name files ≡ Ok program)
-unfolding program_stage
-program_given None name bytes program h e = tt
-program_given (Some files) name bytes program h e = rw (h, e) refl
-
-pub program_refused : (told : Option Files) (name bytes : List ℕ) → IfSome told (λ files. file_stage place.Program (files name) ≡ Ok bytes) → program_of bytes ≡ None
-    → IfSome told (λ files. program_stage name files ≡ Err (Other refusal.Program))
-unfolding program_stage
-program_refused None name bytes h e = tt
-program_refused (Some files) name bytes h e = rw (h, e) refl
-
-pub table_given : (told : Option Files) (name bytes : List ℕ) (program : Program) (set : SetShape) → IfSome told (λ files. file_stage place.Table (files name) ≡ Ok bytes) → table_set (schema_of program) None 0 bytes ≡ Some set
-    → IfSome told (λ files. table_stage name program files ≡ Ok set)
-unfolding table_stage
-table_given None name bytes program set h e = tt
-table_given (Some files) name bytes program set h e = rw (h, e) refl
-
-pub table_refused : (told : Option Files) (name bytes : List ℕ) (program : Program) → IfSome told (λ files. file_stage place.Table (files name) ≡ Ok bytes) → table_set (schema_of program) None 0 bytes ≡ None
-    → IfSome told (λ files. table_stage name program files ≡ Err (Other refusal.Table))
-unfolding table_stage
-table_refused None name bytes program h e = tt
-table_refused (Some files) name bytes program h e = rw (h, e) refl
-
--- ---- what a program read off a short text is
-
-pub is_runnable : (program : Program) (size : ℕ) → size ≤ 2 ^ 20 → length program.fields ≤ 32 → All (λ name. length name ≤ size) program.fields → length program.set ≤ size → AreOver (length program.fields) program.assignments → IsRunnable program
-is_runnable program size few fields sizes set places = record {
-  schema = record {
-    few_ends = omega arith;
-    whole_numbers = All-map (λ (c : Column). c.scale ≡ 0) column_of program.fields (λ k d h. refl);
-    short_name = omega arith;
-    short_headings = All-map (λ (c : Column). length c.heading < 2 ^ 32) column_of program.fields (λ k d h. let short : length (get_or program.fields k d) ≤ size = sizes k d h in omega arith);
-  };
-  few_columns = omega arith;
-  places = places;
-}

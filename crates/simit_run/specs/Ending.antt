@@ -1,6 +1,6 @@
 -- How a call of the program may end, and what shows it: the status, the bytes that are put out, and the
 -- line that is put to the notes.
-use Rattle.std.specs.Prelude.{◌≡◌, ◌⊎◌, ℕ, List, [], ◌∷◌, Option, Result, Ok, Err, codes, Contains, slice_index_or}
+use Rattle.std.specs.Prelude.{◌≡◌, ◌⊎◌, ◌+◌, ℕ, List, [], ◌∷◌, Option, Result, Ok, Err, codes, Contains, decimal, slice_index_or}
 use Rattle.std.specs.List.{concat}
 use Rattle.simit_io.specs.Inputs.{Files}
 use Rattle.simit_io.specs.Sink.{Puts, PutsPrefix, IsPrefixOf}
@@ -22,18 +22,19 @@ pub record Ending : Type 0 where
 -- the name of a file among the words
 abbrev pub file_name : List (List ℕ) → Place → List ℕ
 file_name words place.Program = slice_index_or words 1 []
-file_name words place.Table = slice_index_or words 2 []
+file_name words (place.Table number) = slice_index_or words (2 + number) []
 
 -- how many bytes a file of a place may have, in digits
 abbrev pub limit_text : Place → List ℕ
 limit_text place.Program = codes "1048576"
-limit_text place.Table = codes "67108864"
+limit_text (place.Table number) = codes "67108864"
 
 abbrev pub refusal_status : Refusal → Status
 refusal_status refusal.Words = status.Refused
 refusal_status (refusal.FileLimit place) = status.Limit
 refusal_status refusal.Program = status.Refused
-refusal_status refusal.Table = status.Refused
+refusal_status (refusal.Files files sets) = status.Refused
+refusal_status (refusal.Table number) = status.Refused
 
 abbrev pub status_of : Stop → Status
 status_of Memory = status.Memory
@@ -42,11 +43,14 @@ status_of (Other refusal) = refusal_status refusal
 
 -- the note line of a refusal
 abbrev pub refusal_note : List (List ℕ) → Refusal → List ℕ
-refusal_note words refusal.Words = codes "usage: simit run PROGRAM TABLE\n"
+refusal_note words refusal.Words = codes "usage: simit run PROGRAM SETS..\n"
 refusal_note words (refusal.FileLimit place) =
     concat (codes "limit: " ∷ file_name words place ∷ codes " is over " ∷ limit_text place ∷ codes " bytes\n" ∷ [])
 refusal_note words refusal.Program = codes "refused: program\n"
-refusal_note words refusal.Table = concat (codes "refused: " ∷ file_name words place.Table ∷ codes ": table\n" ∷ [])
+refusal_note words (refusal.Files files sets) =
+    concat (codes "refused: " ∷ decimal files ∷ codes " files for " ∷ decimal sets ∷ codes " sets\n" ∷ [])
+refusal_note words (refusal.Table number) =
+    concat (codes "refused: " ∷ file_name words (place.Table number) ∷ codes ": table\n" ∷ [])
 
 -- the note line of an answer that is no output
 abbrev pub note_of : List (List ℕ) → Stop → List ℕ

@@ -1,8 +1,8 @@
-pub mod Reading
-pub mod Meaning
+pub mod Front
 pub mod Status
 pub mod Answer
 pub mod Ending
 pub mod Command
 pub mod Stages
-pub mod Grammar
+pub mod Tables
+pub mod Written

@@ -1,11 +1,6 @@
 -- What a stage of the answer shows of itself.
-use Rattle.std.specs.Prelude.{◌≡◌, ◌≤◌, ⊤, ◌⊎◌, List, Option, IfSome, MatchOption, Result, Ok, Err, Contains, length}
+use Rattle.std.specs.Prelude.{◌≡◌, ⊤, ◌⊎◌, List, Option, IfSome, MatchOption, Result, Ok, Err, Contains}
 use Rattle.simit_io.specs.Inputs.{Files}
-use Rattle.hypergraph.specs.SetShape.{most_columns}
-use Rattle.set_tables.specs.Schema.{IsSchema}
-use Rattle.simit_run.specs.Answer.{schema_of}
-use Rattle.simit_run.specs.Meaning.{AreOver}
-use Rattle.simit_run.specs.declared.program.Program.{Program}
 use Rattle.simit_run.specs.declared.stop.Place.{Place}
 use Rattle.simit_run.specs.declared.stop.Stop.{Stop}
 use Rattle.simit_run.specs.declared.stop.Stop.TheVariants.{Memory, ReadFault, Other}
@@ -23,9 +18,3 @@ Stops told rose stage reads (Other refusal) = IfSome told (λ files. stage files
 abbrev pub Shows : {X Y : Type 0} → (X → Y) → Option Files → Type 0 → (Files → Result Y Stop) → (Files → List Place) → Result X Stop → Type 0
 Shows view told rose stage reads (Ok x) = IfSome told (λ files. stage files ≡ Ok (view x))
 Shows view told rose stage reads (Err stop) = Stops told rose stage reads stop
-
--- a program whose set's table can be read and whose assignments can be run
-pub record IsRunnable (program : Program) : Type 0 where
-  pub schema : IsSchema (schema_of program)
-  pub few_columns : length program.fields ≤ most_columns
-  pub places : AreOver (length program.fields) program.assignments

@@ -1,19 +1,19 @@
-//! The runner: reads a program and a table, runs the program's assignments and puts the table out.
+//! The runner: reads a program and the tables of its sets, runs the program and puts the tables out.
 #![tactic(auto)]
 
 mod answering;
 mod command;
-mod evaluation;
+mod file;
+mod front;
 mod note;
-mod parser;
-mod parts;
-mod program;
+mod output;
 mod status;
 mod stop;
-mod sums;
+mod tables;
 #[cfg(test)]
 mod tests;
 mod top_call;
+mod writing;
 
 pub use status::Status;
 pub use top_call::run;

@@ -1,11 +1,12 @@
 //! The note lines. A line is put in pieces, so that it takes no memory.
 
-ghost use Rattle.std.specs.Prelude.{◌≡◌, [], ◌∷◌, map, string_bytes, codes};
+ghost use Rattle.std.specs.Prelude.{◌≡◌, [], ◌∷◌, map, string_bytes, codes, decimal};
 ghost use Rattle.std.specs.List.{concat};
 ghost use Rattle.simit_io.specs.Inputs.{Rose};
 ghost use Rattle.simit_run.specs.Ending.{note_of, refusal_note, file_name, limit_text, PutsNote};
 
 use crate::stop::{Place, Refusal, Stop};
+use itoa::Buffer;
 use simit_io::{Sink, put_all};
 
 /// Puts pieces one after the other, up to the first that the sink doesn't take whole.
@@ -39,7 +40,7 @@ fn file_name(words: &[String], place: Place) -> &str
 {
     let index = match place {
         Place::Program => 1,
-        Place::Table => 2,
+        Place::Table(number) => 2 + number as usize,
     };
     match words.get(index) {
         Some(word) => word.as_str(),
@@ -53,8 +54,25 @@ fn limit_text(place: Place) -> &'static str
 {
     match place {
         Place::Program => "1048576",
-        Place::Table => "67108864",
+        Place::Table(_) => "67108864",
     }
+}
+
+/// Puts the line of another number of tables than of sets.
+fn put_files<N: Sink>(notes: &mut N, files: usize, sets: usize)
+    ensures { PutsNote (N.written notes.old) (N.written notes.new) (Rose (N.faults notes.old) (N.faults notes.new))
+        (concat (codes "refused: " ∷ decimal files ∷ codes " files for " ∷ decimal sets ∷ codes " sets\n" ∷ [])) }
+{
+    let mut of_files = Buffer::new();
+    let mut of_sets = Buffer::new();
+    put_five(
+        notes,
+        "refused: ",
+        of_files.format(files),
+        " files for ",
+        of_sets.format(sets),
+        " sets\n",
+    );
 }
 
 /// Puts the line of a refusal.
@@ -62,7 +80,7 @@ fn put_refusal<N: Sink>(notes: &mut N, words: &[String], refusal: Refusal)
     ensures { PutsNote (N.written notes.old) (N.written notes.new) (Rose (N.faults notes.old) (N.faults notes.new)) (refusal_note (map string_bytes words.now) refusal) }
 {
     match refusal {
-        Refusal::Words => put_pieces(notes, &["usage: simit run PROGRAM TABLE\n"]),
+        Refusal::Words => put_pieces(notes, &["usage: simit run PROGRAM SETS..\n"]),
         Refusal::FileLimit(place) => {
             let name = file_name(words, place);
             put_five(
@@ -75,10 +93,11 @@ fn put_refusal<N: Sink>(notes: &mut N, words: &[String], refusal: Refusal)
             );
         }
         Refusal::Program => put_pieces(notes, &["refused: program\n"]),
-        Refusal::Table => put_about(
+        Refusal::Files { files, sets } => put_files(notes, files, sets),
+        Refusal::Table(number) => put_about(
             notes,
             "refused: ",
-            file_name(words, Place::Table),
+            file_name(words, Place::Table(number)),
             ": table\n",
         ),
     }

@@ -1,10 +1,10 @@
 //! Why the program has no output.
 
-/// The files that the command's words name.
+/// The files that the command's words name: the program's, and the tables' by their numbers from 0.
 #[derive(Clone, Copy, Debug, PartialEq, Eq)]
 pub enum Place {
     Program,
-    Table,
+    Table(u32),
 }
 
 /// What is wrong with the words or with a file that was read.
@@ -16,8 +16,10 @@ pub enum Refusal {
     FileLimit(Place),
     /// The program's file states no program.
     Program,
-    /// The table's file states no table of the program's set.
-    Table,
+    /// There are so many tables for another number of sets.
+    Files { files: usize, sets: usize },
+    /// The table's file states no table of its set.
+    Table(u32),
 }
 
 /// Why there is no output.

@@ -4,5 +4,7 @@ mod calls;
 mod faults;
 mod limits;
 mod programs;
+mod springs;
+mod springs_refused;
 mod tables;
 mod words;

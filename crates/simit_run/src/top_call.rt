@@ -9,7 +9,7 @@ use crate::answering::answer;
 use crate::note::{put_note, put_write_fault};
 use crate::status::Status;
 use crate::stop::{Refusal, Stop};
-use simit_io::{Failed, Inputs, Sink, put_all};
+use simit_io::{Failed, Inputs, Sink};
 use std::alloc::Global;
 
 /// The status of a refusal.
@@ -18,7 +18,9 @@ fn refusal_status(refusal: Refusal) -> Status
 {
     match refusal {
         Refusal::FileLimit(_) => Status::Limit,
-        Refusal::Words | Refusal::Program | Refusal::Table => Status::Refused,
+        Refusal::Words | Refusal::Program | Refusal::Files { .. } | Refusal::Table(_) => {
+            Status::Refused
+        }
     }
 }
 
@@ -35,9 +37,9 @@ fn status_of(stop: Stop) -> Status
 
 /// Runs the command that the words after the program's own name state.
 ///
-/// The words are `run PROGRAM TABLE`. The program's file is read and judged before the table's file is
-/// opened, and nothing is put to `out` before the run has ended. Where there is no output, a line that says
-/// why is put to `notes`.
+/// The words are `run PROGRAM SETS..`. The program's file is read and judged before a table's file is opened,
+/// and each table before the next; nothing is put to `out` before the run has ended. Where there is no output,
+/// a line that says why is put to `notes`.
 pub fn run<I: Inputs, O: Sink, N: Sink>(
     alloc: Global,
     words: &[String],
@@ -58,7 +60,7 @@ pub fn run<I: Inputs, O: Sink, N: Sink>(
     ensures refused_words { command_of (map string_bytes words.now) ≡ None → result ≡ Status.Refused }
 {
     match answer(alloc, words, inputs) {
-        Ok(text) => match put_all(out, &text) {
+        Ok(output) => match output.put(out) {
             Ok(()) => Status::Done,
             Err(Failed) => {
                 put_write_fault(notes);

@@ -106,6 +106,26 @@ fn call_over(alloc: Global, program: &[u8], table: &[u8]) -> Result<Ended, Fail>
     call_by(alloc, program, table, NONE_FAILS, 4096)
 }
 
+/// The end of `run a.sim points.csv springs.csv` over these three files, in which a take gives, and a put takes,
+/// at most so many bytes.
+pub fn call_springs(
+    alloc: Global,
+    program: &[u8],
+    tables: (&[u8], &[u8]),
+    failing: Failing,
+    most: usize,
+) -> Result<Ended, Fail>
+    requires { 1 ≤ most }
+{
+    let words = ["run", "a.sim", "points.csv", "springs.csv"];
+    let files = [
+        ("a.sim", program),
+        ("points.csv", tables.0),
+        ("springs.csv", tables.1),
+    ];
+    call(alloc, &words, &files, failing, most, most)
+}
+
 /// Asserts how a call ended.
 pub fn assert_shown(
     rt: &impl Abort,

@@ -15,7 +15,7 @@ fn assert_usage(
 ) -> Result<(), Fail> {
     let ended = call(rt.alloc(), words, files, NONE_FAILS, 4096, 4096)?;
     let case = format!(in rt.alloc(); "{words:?}")?;
-    let note = b"usage: simit run PROGRAM TABLE\n";
+    let note = b"usage: simit run PROGRAM SETS..\n";
     assert_ended(rt, case.as_str(), &ended, Status::Refused, b"", note);
     Ok(())
 }
@@ -43,9 +43,8 @@ fn words_that_are_no_command(rt: HostRuntime) -> Result<(), Fail> {
             &[],
             &[""],
             &["run"],
-            &["run", "a.sim"],
-            &["run", "a.sim", "points.csv", "points.csv"],
             &["run", "a.sim", "points.csv", ""],
+            &["run", "a.sim", "points.csv", "-", "points.csv"],
             &["plan", "a.sim", "points.csv"],
             &["Run", "a.sim", "points.csv"],
             &["run ", "a.sim", "points.csv"],
@@ -58,6 +57,37 @@ fn words_that_are_no_command(rt: HostRuntime) -> Result<(), Fail> {
             &["run", "-", "points.csv"],
             &["run", "a.sim", "-"],
         ],
+    )
+}
+
+/// Asserts that a call with these words is refused for its number of tables, none of which is there.
+fn assert_number_of_tables(
+    rt: &(impl Abort + AllocGlobal),
+    words: &[&str],
+    note: &str,
+) -> Result<(), Fail> {
+    let case = format!(in rt.alloc(); "{words:?}")?;
+    let files = [("a.sim", PROGRAM)];
+    let ended = call(rt.alloc(), words, &files, NONE_FAILS, 4096, 4096)?;
+    let (status, note) = (Status::Refused, note.as_bytes());
+    assert_ended(rt, case.as_str(), &ended, status, b"", note);
+    Ok(())
+}
+
+#[test]
+fn another_number_of_tables_than_of_sets(rt: HostRuntime) -> Result<(), Fail> {
+    assert_number_of_tables(&rt, &["run", "a.sim"], "refused: 0 files for 1 sets\n")?;
+    assert_number_of_tables(
+        &rt,
+        &["run", "a.sim", "b", "c"],
+        "refused: 2 files for 1 sets\n",
+    )?;
+    assert_number_of_tables(
+        &rt,
+        &[
+            "run", "a.sim", "b", "c", "d", "e", "f", "g", "h", "i", "j", "k",
+        ],
+        "refused: 10 files for 1 sets\n",
     )
 }
 

@@ -37,9 +37,12 @@ loop-element-preserved c =
     (next-element c.args.to.now c.loop-element.to c.args.schema.now set c.loop-element.element (omega arith) c.loop-element.invariant)
     c.write_element.ensures
 
-pub returns : goal.returns
-returns c =
+pub returns-clause-written : goal.returns-clause-written
+returns-clause-written c =
     let set = set_at c.args.sets.now c.args.set in
     (all-written c.args.to.now c.loop-element.to (table_text c.args.schema.now set)
     (left-is c.args.to.now c.loop-element.to (table_text c.args.schema.now set) _ _ c.loop-element.invariant
     (elements-end c.args.schema.now set c.loop-element.element set.count (omega arith)))).0
+
+pub returns-clause-room_kept : goal.returns-clause-room_kept
+returns-clause-room_kept c = c.loop-element.invariant.kept

@@ -1,25 +1,21 @@
-use Rattle.std.proofs.Common.{◌≡◌, ◌++◌, ◌∙◌, [], ◌∷◌, ℕ, List, ap, refl}
-use Rattle.std.specs.Prelude.{slice_set}
+use Rattle.std.proofs.Common.{◌≡◌, ◌∙◌, List, map, ap, rules}
 use Rattle.hypergraph.specs.SetShape.{SetShape}
-use Rattle.hypergraph.specs.Sets.{set_at}
-use Rattle.set_tables.specs.Output.{table_text}
 use Rattle.set_tables.specs.declared.schema.Schema.{Schema}
-use Rattle.simit_run.specs.Answer.{output_of, schema_of}
-use Rattle.simit_run.specs.Meaning.{after_all}
-use Rattle.simit_run.specs.declared.program.Assignment.{Assignment}
+use Rattle.global_algebra.specs.Fits.{SetsFit}
+use Rattle.global_algebra.specs.Run.{run}
+use Rattle.simit_run.specs.Answer.{output_of, schema_of, texts_of}
+use Rattle.simit_run.proofs.SetsRead.{have-tables}
 use Rattle.simit_run.proofs.answering.output_of.Goals as goal
 
--- the one set after assignments
-only-after : (sets new : List SetShape) (set : SetShape) (assignments : List Assignment) → sets ≡ set ∷ [] → new ≡ slice_set sets 0 (after_all (set_at sets 0) assignments) → set_at new 0 ≡ after_all set assignments
-only-after sets new set assignments one after = ap (λ s. set_at s 0) after ∙ rw one refl
+pub of-requires : goal.of-requires
+of-requires c =
+    let fit : SetsFit c.args.program.now c.in_ok-sets.sets = search rules in
+    rw c.requires.schemas (have-tables c.args.program.now c.in_ok-sets.sets c.requires.runnable fit)
 
 pub returns : goal.returns
 unfolding output_of
 returns c =
     let program = c.args.program.now in
-    let new = c.run_assignments.new.sets in
-    let same : set_at new 0 ≡ after_all c.args.set program.assignments =
-    only-after c.in_ok-sets.sets new c.args.set program.assignments c.in_ok-sets.ensures (rw c.items.ensures at c.in_ok-run_assignments.ensures.after) in
-    c.write_table.ensures ∙ ap (λ (front : List ℕ). front ++ table_text c.args.schema.now (set_at new 0)) c.in_ok-text.ensures.items
-    ∙ ap (λ (schema : Schema). table_text schema (set_at new 0)) c.requires.schema
-    ∙ ap (table_text (schema_of program)) same
+    let after : c.in_ok-sets.sets ≡ run program c.args.list.items = search rules in
+    c.in_ok-output.ensures ∙ ap (λ (schemas : List Schema). texts_of schemas c.in_ok-sets.sets) c.requires.schemas
+    ∙ ap (texts_of (map schema_of program.sets)) after
