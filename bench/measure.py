@@ -1,7 +1,7 @@
-"""Runs the three programs by turns over both tables and prints what each took. Started by table.sh,
-which makes the tables and the C program in work/.
+"""Runs the three programs of a job by turns over both of its inputs and prints what each took. Started by
+table.sh and springs.sh, which make the inputs and the C program in work/.
 
-Usage: python3 measure.py SIMIT ROUNDS
+Usage: python3 measure.py JOB SIMIT PYTHON ROUNDS
 """
 import os
 import resource
@@ -9,28 +9,54 @@ import sys
 import time
 
 MIB = 2**20
-FIELDS = 2
 BYTES_PER_CELL = 16
 FREE_BYTES = 64 * MIB
 CHUNK = 2**16
-TABLES = ["points", "quarter"]
+INPUTS = ["whole", "quarter"]
+
+
+class Job:
+    """What is run: the simit program, and the tables of each input with their numbers of columns."""
+
+    def __init__(self, name, program, tables, columns, python):
+        self.name = name
+        self.program = f"work/{program}"
+        self.tables = tables
+        self.columns = columns
+        self.python = python
+
+    def files(self, size):
+        return [f"work/{size}-{table}.csv" for table in self.tables]
+
+    def rows(self, size):
+        return [count_rows(file) for file in self.files(size)]
+
+    def cells(self, size):
+        return sum(rows * columns for rows, columns in zip(self.rows(size), self.columns))
+
+
+JOBS = {
+    "table": Job("table", "four.sim", ["points"], [2], ["-I", "-S", "table.py"]),
+    "springs": Job("springs", "pull.sim", ["points", "springs"], [2, 3], ["springs.py"]),
+}
 
 
 class Program:
-    def __init__(self, name, words):
+    def __init__(self, job, name, words):
+        self.job = job
         self.name = name
         self.words = words
-        self.runs = {table: [] for table in TABLES}
+        self.runs = {size: [] for size in INPUTS}
 
-    def out(self, table):
-        return f"work/{table}-{self.name}.out"
+    def out(self, size):
+        return f"work/{size}-{self.job.name}-{self.name}.out"
 
-    def run(self, table):
+    def run(self, size):
         """One run with its output in a file. The peak is that of this child alone."""
-        if os.path.exists(self.out(table)):
-            os.unlink(self.out(table))
-        words = self.words + [table_file(table)]
-        with open(self.out(table), "xb") as out:
+        if os.path.exists(self.out(size)):
+            os.unlink(self.out(size))
+        words = self.words + self.job.files(size)
+        with open(self.out(size), "xb") as out:
             actions = [(os.POSIX_SPAWN_DUP2, out.fileno(), 1)]
             start = time.perf_counter()
             child = os.posix_spawn(words[0], words, os.environ, file_actions=actions)
@@ -41,15 +67,15 @@ class Program:
             sys.exit(f"stopped: {self.name} ended with status {status}: {' '.join(words)}")
         return Run(seconds, usage)
 
-    def times(self, table):
+    def times(self, size):
         """The best and the median wall time, and the least processor time, in seconds."""
-        runs = self.runs[table]
+        runs = self.runs[size]
         ordered = sorted(run.seconds for run in runs)
         median = (ordered[(len(ordered) - 1) // 2] + ordered[len(ordered) // 2]) / 2
         return [ordered[0], median, min(run.user + run.system for run in runs)]
 
-    def peak(self, table):
-        return max(run.peak for run in self.runs[table])
+    def peak(self, size):
+        return max(run.peak for run in self.runs[size])
 
 
 class Run:
@@ -58,10 +84,6 @@ class Run:
         self.user = usage.ru_utime
         self.system = usage.ru_stime
         self.peak = usage.ru_maxrss * 1024  # told in KiB
-
-
-def table_file(table):
-    return f"work/{table}.csv"
 
 
 def first_difference(left, right):
@@ -79,34 +101,34 @@ def first_difference(left, right):
             place += len(a)
 
 
-def demand_same_output(programs, table):
+def demand_same_output(programs, size):
     first = programs[0]
     for other in programs[1:]:
-        place = first_difference(first.out(table), other.out(table))
+        place = first_difference(first.out(size), other.out(size))
         if place is not None:
             sys.exit(
                 f"stopped: the outputs of {first.name} and {other.name} differ from byte {place} on;"
-                f" they stand in bench/{first.out(table)} and bench/{other.out(table)}"
+                f" they stand in bench/{first.out(size)} and bench/{other.out(size)}"
             )
 
 
 def measure(programs, rounds):
-    """One round that is not timed and then the timed ones. Each round takes both tables, begins with
+    """One round that is not timed and then the timed ones. Each round takes both inputs, begins with
     another program, and compares the three outputs."""
-    for table in TABLES:
+    for size in INPUTS:
         for program in programs:
-            program.run(table)
-        demand_same_output(programs, table)
+            program.run(size)
+        demand_same_output(programs, size)
     for turn in range(rounds):
         first = turn % len(programs)
-        for table in TABLES:
+        for size in INPUTS:
             for program in programs[first:] + programs[:first]:
-                program.runs[table].append(program.run(table))
-            demand_same_output(programs, table)
+                program.runs[size].append(program.run(size))
+            demand_same_output(programs, size)
 
 
-def count_rows(table):
-    with open(table_file(table), "rb") as file:
+def count_rows(name):
+    with open(name, "rb") as file:
         return sum(1 for _ in file) - 1
 
 
@@ -119,32 +141,34 @@ def print_ratios(name, above, below):
     print(f"  {name:14}{first:9.2f}{second:10.2f}{third:9.2f}")
 
 
-def report(programs, table, rounds):
+def report(job, programs, size, rounds):
     c, simit, python = programs
-    rows = count_rows(table)
-    table_bytes, out_bytes = os.path.getsize(table_file(table)), os.path.getsize(simit.out(table))
-    print(f"{rows:,} rows: table {mib(table_bytes)}, output {mib(out_bytes)}, the same from all three; rounds: {rounds}")
+    rows = job.rows(size)
+    in_bytes = sum(os.path.getsize(file) for file in job.files(size))
+    out_bytes = os.path.getsize(simit.out(size))
+    named = ", ".join(f"{count:,} {table}" for count, table in zip(rows, job.tables))
+    print(f"{named}: input {mib(in_bytes)}, output {mib(out_bytes)}, the same from all three; rounds: {rounds}")
     print(f"  {'':14}{'best s':>9}{'median s':>10}{'cpu s':>9}{'best ns/row':>13}{'peak MiB':>10}")
     for program in programs:
-        best, median, processor_time = program.times(table)
-        per_row = best / rows * 1e9
-        print(f"  {program.name:14}{best:9.3f}{median:10.3f}{processor_time:9.3f}{per_row:13.1f}{program.peak(table) / MIB:10.1f}")
-    print_ratios("simit / C", simit.times(table), c.times(table))
-    print_ratios("Python / simit", python.times(table), simit.times(table))
-    bound = table_bytes + BYTES_PER_CELL * FIELDS * rows + out_bytes + FREE_BYTES
-    peak = simit.peak(table)
+        best, median, processor_time = program.times(size)
+        per_row = best / sum(rows) * 1e9
+        print(f"  {program.name:14}{best:9.3f}{median:10.3f}{processor_time:9.3f}{per_row:13.1f}{program.peak(size) / MIB:10.1f}")
+    print_ratios("simit / C", simit.times(size), c.times(size))
+    print_ratios("Python / simit", python.times(size), simit.times(size))
+    bound = in_bytes + BYTES_PER_CELL * job.cells(size) + out_bytes + FREE_BYTES
+    peak = simit.peak(size)
     verdict = "within" if peak <= bound else "OVER"
-    print(f"  simit's peak {mib(peak)} is {verdict} {mib(bound)}: table + {BYTES_PER_CELL} bytes a cell + output + 64 MiB")
+    print(f"  simit's peak {mib(peak)} is {verdict} {mib(bound)}: input + {BYTES_PER_CELL} bytes a cell + output + 64 MiB")
     print()
 
 
-def keep_runs(programs):
-    with open("work/runs.csv", "w") as file:
-        print("table,program,round,wall seconds,user seconds,system seconds,peak bytes", file=file)
-        for table in TABLES:
+def keep_runs(job, programs):
+    with open(f"work/{job.name}-runs.csv", "w") as file:
+        print("input,program,round,wall seconds,user seconds,system seconds,peak bytes", file=file)
+        for size in INPUTS:
             for program in programs:
-                for turn, run in enumerate(program.runs[table]):
-                    print(table, program.name, turn, run.seconds, run.user, run.system, run.peak, sep=",", file=file)
+                for turn, run in enumerate(program.runs[size]):
+                    print(size, program.name, turn, run.seconds, run.user, run.system, run.peak, sep=",", file=file)
 
 
 def processor():
@@ -156,26 +180,25 @@ def processor():
 
 
 def main():
-    simit_path, rounds = sys.argv[1], int(sys.argv[2])
+    job, simit_path, python_path, rounds = JOBS[sys.argv[1]], sys.argv[2], sys.argv[3], int(sys.argv[4])
     programs = [
-        Program("C", [os.path.abspath("work/table")]),
-        Program("simit", [simit_path, "run", "work/four.sim"]),
-        Program("Python", [sys.executable, "-I", "-S", "table.py"]),
+        Program(job, "C", [os.path.abspath(f"work/{job.name}")]),
+        Program(job, "simit", [simit_path, "run", job.program]),
+        Program(job, "Python", [python_path, *job.python]),
     ]
     system = os.uname()
     print(f"taken on: {processor()}, {system.sysname} {system.release}")
     print(f"simit: {simit_path}")
-    print(f"Python: {sys.version.split()[0]}")
     print(flush=True)
     measure(programs, rounds)
-    keep_runs(programs)
-    for table in TABLES:
-        report(programs, table, rounds)
-    print("the whole table over its quarter, 4 where time grows with the rows alone")
+    keep_runs(job, programs)
+    for size in INPUTS:
+        report(job, programs, size, rounds)
+    print("the whole input over its quarter, 4 where time grows with the rows alone")
     for program in programs:
-        print_ratios(program.name, *(program.times(table) for table in TABLES))
+        print_ratios(program.name, *(program.times(size) for size in INPUTS))
     own_peak = resource.getrusage(resource.RUSAGE_SELF).ru_maxrss * 1024
-    print(f"\nno peak is told below the runner's own, {mib(own_peak)}; each run stands in bench/work/runs.csv")
+    print(f"\nno peak is told below the runner's own, {mib(own_peak)}; each run stands in bench/work/{job.name}-runs.csv")
 
 
 main()

@@ -3,146 +3,16 @@
  * statements of four.sim over it modulo 2^64, and prints the table.
  *
  * Usage: table TABLE
- * Ends with 0 done, 1 no memory, 2 refused, 3 read fault, 4 write fault, 7 over a limit.
  */
-#include <fcntl.h>
-#include <stdbool.h>
-#include <stdint.h>
-#include <stdio.h>
-#include <stdlib.h>
-#include <string.h>
-#include <sys/stat.h>
-#include <unistd.h>
-
-enum { MOST_ROWS = 1048576, MOST_BYTES = 67108864 };
-enum { ROW_TEXT = 2 * 21 };  /* the longest row: two cells of 20 bytes, each with its comma or line end */
-enum { CELL_COPY = 20 };     /* each cell is copied as 20 bytes, and what follows it is written over */
+#include "cells.h"
 
 static const char HEAD[] = "set points\nx,f\n";
-
-static _Noreturn void stop(int status, const char *note)
-{
-    fprintf(stderr, "%s\n", note);
-    exit(status);
-}
-
-static _Noreturn void refuse(void)
-{
-    stop(2, "refused: table");
-}
-
-static void *room(size_t bytes)
-{
-    void *start = malloc(bytes);
-    if (!start)
-        stop(1, "no memory");
-    return start;
-}
-
-/* The whole file and a 0 after it, at which every loop of the parser stops. */
-static char *read_file(const char *name, size_t *length)
-{
-    int file = open(name, O_RDONLY);
-    struct stat about;
-    if (file < 0 || fstat(file, &about) < 0)
-        stop(3, "read fault");
-    if (about.st_size > MOST_BYTES)
-        stop(7, "limit: the table is over 67108864 bytes");
-    size_t size = (size_t)about.st_size, got = 0;
-    char *text = room(size + 1);
-    while (got < size) {
-        ssize_t count = read(file, text + got, size - got);
-        if (count < 0)
-            stop(3, "read fault");
-        if (count == 0)
-            break;
-        got += (size_t)count;
-    }
-    close(file);
-    text[got] = 0;
-    *length = got;
-    return text;
-}
-
-static inline bool is_digit(char byte)
-{
-    return byte >= '0' && byte <= '9';
-}
-
-static inline bool is_line_end(char byte)
-{
-    return byte == '\n' || byte == '\r';
-}
-
-static inline const char *skip_spaces(const char *at)
-{
-    while (*at == ' ')
-        at++;
-    return at;
-}
-
-static inline const char *skip_line_ends(const char *at)
-{
-    while (is_line_end(*at))
-        at++;
-    return at;
-}
-
-/* Reads a whole number of the signed range with the spaces round it; zeros after a point are let pass. */
-static inline const char *read_cell(const char *at, uint64_t *word)
-{
-    at = skip_spaces(at);
-    bool negative = *at == '-';
-    at += negative;
-    if (!is_digit(*at))
-        refuse();
-    uint64_t size = 0;
-    for (; is_digit(*at); at++) {
-        if (size > INT64_MAX / 10)
-            refuse();
-        size = 10 * size + (uint64_t)(*at - '0');
-    }
-    if (size > (uint64_t)INT64_MAX + negative)
-        refuse();
-    if (*at == '.') {
-        if (!is_digit(*++at))
-            refuse();
-        while (*at == '0')
-            at++;
-    }
-    *word = negative ? -size : size;
-    return skip_spaces(at);
-}
-
-static const char *read_name(const char *at, char name)
-{
-    at = skip_spaces(at);
-    if (*at != name)
-        refuse();
-    return skip_spaces(at + 1);
-}
-
-static const char *read_comma(const char *at)
-{
-    if (*at != ',')
-        refuse();
-    return at + 1;
-}
-
-static const char *read_line_end(const char *at, const char *end)
-{
-    if (at != end && !is_line_end(*at))
-        refuse();
-    return skip_line_ends(at);
-}
 
 /* The number of rows, whose words are put into the two columns. Blank lines are passed over. */
 static size_t read_table(const char *at, const char *end, uint64_t *x, uint64_t *f)
 {
-    if (strncmp(at, "\xEF\xBB\xBF", 3) == 0)
-        at += 3;
-    at = read_comma(read_name(skip_line_ends(at), 'x'));
-    at = read_line_end(read_name(at, 'f'), end);
+    at = read_comma(read_name(skip_line_ends(skip_mark(at)), "x"));
+    at = read_line_end(read_name(at, "f"), end);
     size_t rows = 0;
     for (; at != end; rows++) {
         if (rows == MOST_ROWS)
@@ -166,52 +36,9 @@ static void run(uint64_t *restrict x, uint64_t *restrict f, size_t rows)
         x[i] = x[i] * x[i] - 7 * f[i];
 }
 
-static char pairs[200];  /* 00 01 02 and so on to 99 */
-
-static void fill_pairs(void)
-{
-    for (int i = 0; i < 100; i++) {
-        pairs[2 * i] = (char)('0' + i / 10);
-        pairs[2 * i + 1] = (char)('0' + i % 10);
-    }
-}
-
-/* Writes a word in its signed reading. */
-static inline char *write_cell(char *out, uint64_t word)
-{
-    char digits[2 * CELL_COPY];
-    char *end = digits + CELL_COPY, *first = end;
-    if (word >> 63) {
-        *out++ = '-';
-        word = -word;
-    }
-    while (word >= 10000) {
-        uint32_t low = (uint32_t)(word % 10000);
-        word /= 10000;
-        first -= 4;
-        memcpy(first, pairs + 2 * (low / 100), 2);
-        memcpy(first + 2, pairs + 2 * (low % 100), 2);
-    }
-    uint32_t rest = (uint32_t)word;
-    if (rest >= 100) {
-        first -= 2;
-        memcpy(first, pairs + 2 * (rest % 100), 2);
-        rest /= 100;
-    }
-    if (rest >= 10) {
-        first -= 2;
-        memcpy(first, pairs + 2 * rest, 2);
-    } else {
-        *--first = (char)('0' + rest);
-    }
-    memcpy(out, first, CELL_COPY);
-    return out + (end - first);
-}
-
 static size_t write_table(char *out, const uint64_t *x, const uint64_t *f, size_t rows)
 {
-    char *at = out + sizeof HEAD - 1;
-    memcpy(out, HEAD, sizeof HEAD - 1);
+    char *at = write_head(out, HEAD, sizeof HEAD - 1);
     for (size_t i = 0; i < rows; i++) {
         at = write_cell(at, x[i]);
         *at++ = ',';
@@ -221,32 +48,19 @@ static size_t write_table(char *out, const uint64_t *x, const uint64_t *f, size_
     return (size_t)(at - out);
 }
 
-static void put_all(const char *from, size_t length)
-{
-    while (length > 0) {
-        ssize_t count = write(STDOUT_FILENO, from, length);
-        if (count < 0)
-            stop(4, "write fault");
-        from += count;
-        length -= (size_t)count;
-    }
-}
-
 int main(int count, char **words)
 {
     if (count != 2)
         stop(2, "usage: table TABLE");
     size_t length;
     char *text = read_file(words[1], &length);
-    size_t most = length / 4 + 1;  /* a row takes at least four bytes, but the last may have no line end */
-    if (most > MOST_ROWS)
-        most = MOST_ROWS;
+    size_t most = most_rows(length, 4);
     uint64_t *x = room(most * sizeof *x), *f = room(most * sizeof *f);
     size_t rows = read_table(text, text + length, x, f);
     free(text);
     run(x, f, rows);
     fill_pairs();
-    char *out = room(sizeof HEAD + rows * ROW_TEXT + CELL_COPY);
+    char *out = room(sizeof HEAD + rows * 2 * CELL_TEXT + CELL_COPY);
     put_all(out, write_table(out, x, f, rows));
     return 0;
 }

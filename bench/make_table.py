@@ -1,5 +1,5 @@
-"""Makes the benchmark's input in a folder: the program four.sim, the table points.csv and its first
-quarter, quarter.csv. The same bytes come of every run.
+"""Makes the input of the job over one table in a folder: the program four.sim, the table whole-points.csv and
+its first quarter, quarter-points.csv. The same bytes come of every run.
 
 Usage: python3 make_input.py FOLDER
 """
@@ -58,7 +58,7 @@ def lines(rows):
 def main():
     folder = pathlib.Path(sys.argv[1])
     (folder / "four.sim").write_text(PROGRAM)
-    with open(folder / "points.csv", "w") as points, open(folder / "quarter.csv", "w") as quarter:
+    with open(folder / "whole-points.csv", "w") as points, open(folder / "quarter-points.csv", "w") as quarter:
         points.write("x,f\n")
         quarter.write("x,f\n")
         for row, line in enumerate(lines(ROWS)):
