@@ -1,0 +1,34 @@
+//! The limits of programs, tables and sets. Definitions read the same constants.
+
+/// The most bytes of a program's file.
+pub const MOST_PROGRAM_BYTES: u32 = 1_048_576;
+
+/// The most tokens of a program's text, its end included.
+pub const MOST_TOKENS: u32 = 65_536;
+
+/// The most bytes of a name in a program.
+pub const MOST_NAME_BYTES: u32 = 64;
+
+/// How deep brackets and blocks may be nested.
+pub const MOST_DEPTH: u32 = 64;
+
+/// The most statements of a program, over its functions and its main procedure together.
+pub const MOST_STATEMENTS: u32 = 4_096;
+
+/// The most sets of a program.
+pub const MOST_SETS: u32 = 8;
+
+/// The most endpoints of an element.
+pub const MOST_ENDPOINTS: u32 = 8;
+
+/// The most fields of an element type.
+pub const MOST_FIELDS: u32 = 32;
+
+/// The most columns of a set's table, its endpoints' included.
+pub const MOST_COLUMNS: u32 = 64;
+
+/// The most elements of a set.
+pub const MOST_ELEMENTS: u32 = 1_048_576;
+
+/// The most bytes of a table's file.
+pub const MOST_TABLE_BYTES: u32 = 67_108_864;
