@@ -11,14 +11,14 @@ use Rattle.std.proofs.lemmas.List.Sums.{sum_by-cons, sum_by-append, fold-append}
 use Rattle.ring_words.specs.Word.{add}
 use Rattle.global_algebra.specs.Element.{Contribution}
 use Rattle.global_algebra.specs.Assembled.{amount_at, assembled, sum_at_row}
-use Rattle.global_algebra.specs.Adding.{added, added_one, AddsTheSums, KeepsTheLength, AssemblesFromZeros, AddsInParts, AssemblesInParts, AddsInAnyOrder, AssemblesInAnyOrder}
+use Rattle.global_algebra.specs.Adding.{added, added_one, AddsNothing, AddsTheFirst, AddsTheSums, KeepsTheLength, AssemblesEachRow, AssemblesFromZeros, AddsInParts, AssemblesInParts, AddsInAnyOrder, AssemblesInAnyOrder}
 
 -- the sum of two words
 pub add_is : (a b : ℕ) → add a b ≡ (a + b) % 2 ^ 64
 unfolding add
 add_is a b = refl
 
--- what one more contribution adds at a row
+-- what another contribution adds at a row
 pub sum_at_row_first : (c : Contribution) (cs : List Contribution) (row : ℕ) → sum_at_row (c ∷ cs) row ≡ amount_at row c + sum_at_row cs row
 unfolding sum_at_row
 sum_at_row_first c cs row = sum_by-cons (amount_at row) c cs
@@ -33,12 +33,12 @@ pub sum_at_row-permutation : (cs ds : List Contribution) (row : ℕ) → IsPermu
 unfolding sum_at_row
 sum_at_row-permutation cs ds row same = sum_by-IsPermutation (amount_at row) cs ds same
 
--- a column after one more contribution
-pub added_first : (column : List ℕ) (c : Contribution) (cs : List Contribution) → added column (c ∷ cs) ≡ added (added_one column c) cs
+-- a column after another contribution
+pub added_first : AddsTheFirst
 unfolding added
 added_first column c cs = refl
 
-pub added_none : (column : List ℕ) → added column [] ≡ column
+pub added_none : AddsNothing
 unfolding added
 added_none column = refl
 
@@ -62,7 +62,7 @@ one_more column c row below fits = elim (cases_eq c.row row) [
       rw (get_or-set_other column c.row row (add (get_or column c.row 0) c.word) 0 other, ne_eqb c.row row ne) (nothing_more (get_or column row 0) (2 ^ 64) fits)
 ]
 
--- what is added at a row, in one step more
+-- what is added at a row, in another step
 two_sums : (a b c m : ℕ) → ((a + b) % m + c) % m ≡ (a + (b + c)) % m
 two_sums a b c m = mod-add-mod (a + b) m c ∙ ap (λ n. n % m) (omega arith)
 
@@ -88,7 +88,7 @@ pub assembled_at : (rows : ℕ) (cs : List Contribution) (row : ℕ) → row < r
 unfolding assembled
 assembled_at rows cs row below = get_or-map-range_with_len (λ r. sum_at_row cs r % 2 ^ 64) 0 rows row row 0 below (omega arith)
 
-pub length-assembled : (rows : ℕ) (cs : List Contribution) → length (assembled rows cs) ≡ rows
+pub length-assembled : AssemblesEachRow
 unfolding assembled
 length-assembled rows cs = length-map-range_with_len (λ r. sum_at_row cs r % 2 ^ 64) 0 rows
 

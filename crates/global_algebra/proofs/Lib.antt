@@ -1,2 +1,1 @@
 pub mod AddingSums
-pub mod Scopes

@@ -1,5 +1,5 @@
 -- What adding contributions into a column comes to, one after the other, in any order and in any parts.
-use Rattle.std.specs.Prelude.{◌≡◌, ◌<◌, ◌+◌, ◌^◌, ℕ, pos, List, ◌++◌, fold, length, replicate, slice_index, slice_set, IsPermutation}
+use Rattle.std.specs.Prelude.{◌≡◌, ◌<◌, ◌+◌, ◌^◌, ℕ, pos, List, [], ◌∷◌, ◌++◌, fold, length, replicate, slice_index, slice_set, IsPermutation}
 use Rattle.ring_words.specs.Word.{word, add}
 use Rattle.global_algebra.specs.Element.{Contribution}
 use Rattle.global_algebra.specs.Assembled.{assembled, sum_at_row}
@@ -13,6 +13,15 @@ added_one column contribution =
 unfoldable pub added : List ℕ → List Contribution → List ℕ
 added column contributed = fold added_one column contributed
 
+-- without contributions a column stays
+abbrev pub AddsNothing : Type 0
+AddsNothing = (column : List ℕ) → added column [] ≡ column
+
+-- the first contribution is added first
+abbrev pub AddsTheFirst : Type 0
+AddsTheFirst = (column : List ℕ) (contribution : Contribution) (contributed : List Contribution)
+    → added column (contribution ∷ contributed) ≡ added (added_one column contribution) contributed
+
 -- where a word stood at a row, there then stands the word of it plus the sum of all that was added there
 abbrev pub AddsTheSums : Type 0
 AddsTheSums = (column : List ℕ) (contributed : List Contribution) (row : ℕ) → row < length column
@@ -22,6 +31,10 @@ AddsTheSums = (column : List ℕ) (contributed : List Contribution) (row : ℕ) 
 -- the column is as long as before
 abbrev pub KeepsTheLength : Type 0
 KeepsTheLength = (column : List ℕ) (contributed : List Contribution) → length (added column contributed) ≡ length column
+
+-- the assembled vector has a word for each row
+abbrev pub AssemblesEachRow : Type 0
+AssemblesEachRow = (rows : ℕ) (contributed : List Contribution) → length (assembled rows contributed) ≡ rows
 
 -- from zeros it is the assembled vector
 abbrev pub AssemblesFromZeros : Type 0

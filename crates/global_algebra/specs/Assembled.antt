@@ -2,18 +2,18 @@
 use Rattle.std.specs.Prelude.{ℕ, pos, ◌==◌, if◌then◌else◌, List, [], map}
 use Rattle.std.specs.List.{range_with_len, flat_map, sum_by}
 use Rattle.ring_words.specs.Word.{word}
-use Rattle.hypergraph.specs.SetShape.{SetShape}
+use Rattle.hypergraph.specs.SetValue.{SetValue}
 use Rattle.hypergraph.specs.Sets.{set_at}
 use Rattle.global_algebra.specs.Element.{Contribution, contributions, site_of}
 use Rattle.global_algebra.specs.declared.program.Step.{Step}
 
 -- what the elements of a set contribute: element after element, each in the order of its steps
-abbrev pub contributions_over : List SetShape → ℕ → List Step → List ℕ → List Contribution
+abbrev pub contributions_over : List SetValue → ℕ → List Step → List ℕ → List Contribution
 contributions_over sets mapped steps elements =
     flat_map (λ element. contributions (site_of sets mapped element) [] steps) elements
 
 -- what all elements of a set contribute
-abbrev pub all_contributions : List SetShape → ℕ → List Step → List Contribution
+abbrev pub all_contributions : List SetValue → ℕ → List Step → List Contribution
 all_contributions sets mapped steps = contributions_over sets mapped steps (range_with_len 0 (set_at sets mapped).count)
 
 -- what a contribution adds at a row: its word at its own row, and nothing elsewhere

@@ -2,7 +2,7 @@
 -- what it contributes to the element's endpoints. All arithmetic is that of words.
 use Rattle.std.specs.Prelude.{ℕ, if◌then◌else◌, List, [], ◌∷◌, ◌++◌, fold, slice_index, Option, None, Some}
 use Rattle.ring_words.specs.Word.{add, sub, mul}
-use Rattle.hypergraph.specs.SetShape.{SetShape, end_at}
+use Rattle.hypergraph.specs.SetValue.{SetValue, endpoint_at}
 use Rattle.hypergraph.specs.Sets.{set_at, empty_set}
 use Rattle.global_algebra.specs.Sums.{entry}
 use Rattle.global_algebra.specs.declared.program.Expr.{Expr}
@@ -13,22 +13,22 @@ use Rattle.global_algebra.specs.declared.program.Step.TheVariants.{Var, Write}
 
 -- where an expression is computed: an element of a set among sets
 pub record Site : Type 0 where
-  pub sets : List SetShape
+  pub sets : List SetValue
   -- the number of the set
   pub mapped : ℕ
   pub element : ℕ
 
-abbrev pub site_of : List SetShape → ℕ → ℕ → Site
+abbrev pub site_of : List SetValue → ℕ → ℕ → Site
 site_of sets mapped element = record { sets = sets; mapped = mapped; element = element }
 
 -- the set in which a set's endpoints lie; the empty one where there are none
-abbrev pub set_over : List SetShape → Option ℕ → SetShape
+abbrev pub set_over : List SetValue → Option ℕ → SetValue
 set_over sets None = empty_set
 set_over sets (Some over) = set_at sets over
 
--- the endpoint of the element at one of its places
+-- the endpoint of the element at one of its positions
 abbrev pub end_of : Site → ℕ → ℕ
-end_of site place = end_at (set_at site.sets site.mapped) site.element place
+end_of site place = endpoint_at (set_at site.sets site.mapped) site.element place
 
 -- the element's word in one of its set's columns
 abbrev pub own_word : Site → ℕ → ℕ
@@ -42,7 +42,7 @@ end_word site place column = entry (set_over site.sets (set_at site.sets site.ma
 abbrev pub term_value : SumTerm-F ℕ (ℕ → ℕ) → ℕ → ℕ
 term_value term total = if term.minus then sub total term.value else add total term.value
 
--- one node of an expression, with the value of each child in its place
+-- one node of an expression, with the value of each child instead of it
 abbrev pub node_value : Site → List ℕ → Expr-F ℕ (ℕ → ℕ) → ℕ
 node_value site variables (Expr-F.Number word) = word
 node_value site variables (Expr-F.Own column) = own_word site column
@@ -61,7 +61,7 @@ pub record Contribution : Type 0 where
   pub word : ℕ
 
 -- what steps contribute, in their order: each variable is computed at its step, and each write contributes its
--- value at the row that is the element's endpoint at the write's place
+-- value at the row that is the element's endpoint at the write's position
 unfoldable pub contributions : Site → List ℕ → List Step → List Contribution
 contributions site variables [] = []
 contributions site variables (Var expr ∷ steps) = contributions site (variables ++ value site variables expr ∷ []) steps

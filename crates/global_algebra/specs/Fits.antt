@@ -1,7 +1,7 @@
 -- Which programs are well formed, and which sets are those of a program.
 use Rattle.std.specs.Prelude.{◌≡◌, ◌<◌, ◌+◌, ◌↔◌, ℕ, Bool, true, ◌&&◌, nat_lt, List, [], ◌∷◌, map, length, slice_index_or, All, Option, None, Some, IfSome, IsNone}
 use Rattle.std.specs.List.{list_all}
-use Rattle.hypergraph.specs.SetShape.{SetShape}
+use Rattle.hypergraph.specs.SetValue.{SetValue}
 use Rattle.hypergraph.specs.Sets.{set_at}
 use Rattle.global_algebra.specs.Run.{function_at}
 use Rattle.global_algebra.specs.declared.program.Expr.{Expr}
@@ -28,7 +28,7 @@ fields_of sets number = length (declaration_at sets number).fields
 pub record Scope : Type 0 where
   -- the columns of the set
   pub own : ℕ
-  -- the places of an element's endpoints
+  -- the positions of an element's endpoints
   pub places : ℕ
   -- the columns of the set in which the endpoints lie
   pub ends : ℕ
@@ -60,7 +60,7 @@ node_in_scope scope variables (Expr-F.Product factors) = all_true factors
 abbrev pub term_in_scope : SumTerm-F Bool Bool → Bool
 term_in_scope term = term.value
 
--- an expression names what is there, with so many variables
+-- an expression names what is there, with this many variables
 abbrev pub is_in_scope : Scope → ℕ → Expr → Bool
 is_in_scope scope variables = fold-Expr Bool Bool (node_in_scope scope variables) term_in_scope
 
@@ -88,7 +88,7 @@ steps_in_scope scope variables [] = true
 steps_in_scope scope variables (step ∷ steps) =
     step_in_scope scope variables step && steps_in_scope scope (variables + added_by step) steps
 
--- each field of a term is one of so many columns
+-- each field of a term is one of this many columns
 abbrev pub IsTermOver : ℕ → Term → Type 0
 IsTermOver columns term = All (λ field. field < columns) term.fields
 
@@ -129,12 +129,12 @@ pub record IsWellFormed (program : Program) : Type 0 where
   pub statements : All (StatementFits program) program.statements
 
 -- a set is as it is declared
-pub record IsAsDeclared (set : SetShape) (declared : SetDeclaration) : Type 0 where
+pub record IsAsDeclared (set : SetValue) (declared : SetDeclaration) : Type 0 where
   pub arity : set.arity ≡ declared.arity
   pub over : set.over ≡ declared.over
   pub columns : length set.columns ≡ length declared.fields
 
 -- sets are those of a program: as many, each as it is declared
-pub record SetsFit (program : Program) (sets : List SetShape) : Type 0 where
+pub record SetsFit (program : Program) (sets : List SetValue) : Type 0 where
   pub as_many : length sets ≡ length program.sets
   pub each : (number : ℕ) → number < length sets → IsAsDeclared (set_at sets number) (declaration_at program.sets number)

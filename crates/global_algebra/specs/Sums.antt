@@ -13,7 +13,7 @@ entry columns element column = slice_index (slice_index_or columns column []) el
 unfoldable pub term_at : List (List ℕ) → ℕ → Term → ℕ
 term_at columns element term = fold mul 1 (term.numbers ++ map (entry columns element) term.fields)
 
--- a sum so far with one more term
+-- a sum so far with another term
 abbrev pub with_term : List (List ℕ) → ℕ → ℕ → Term → ℕ
 with_term columns element total term =
     if term.minus then sub total (term_at columns element term) else add total (term_at columns element term)

@@ -5,8 +5,6 @@
 
 mod adding;
 mod program;
-mod scope;
-mod well_formed;
 
 pub use adding::adding_law;
 pub use program::{Expr, Function, Program, SetDeclaration, Statement, Step, SumTerm, Term};

@@ -1,8 +1,8 @@
-//! The tree of a program over several sets. Names are resolved: sets, functions, columns, the places of an
+//! The tree of a program over several sets. Names are resolved: sets, functions, columns, the positions of an
 //! element's endpoints, and a function's variables are numbered from 0.
 
-use ring_words::{L, Text};
 use sqlite_items::Items;
+use vocabulary::{L, Text};
 
 /// A program: its sets, its functions, and the statements of its main procedure.
 #[derive(Drop)]
@@ -51,9 +51,9 @@ pub enum Statement {
 pub struct Term {
     /// Whether the term is taken away.
     pub minus: bool,
-    /// The numbers in front, from left to right.
+    /// The numbers before the fields, from left to right.
     pub numbers: L<u64>,
-    /// The columns of the fields behind them, from left to right.
+    /// The columns of the fields after the numbers, from left to right.
     pub fields: L<u32>,
 }
 
@@ -69,7 +69,7 @@ pub struct Function {
 pub enum Step {
     /// Gives the next variable its value.
     Var(Expr),
-    /// Contributes a value to the row that is the element's endpoint at a place.
+    /// Contributes a value to the row that is the element's endpoint at a position.
     Write { place: u32, value: Expr },
 }
 
@@ -80,7 +80,7 @@ pub enum Expr {
     Number(u64),
     /// A field of the element, by its column.
     Own(u32),
-    /// A field of an endpoint, by the endpoint's place and the field's column.
+    /// A field of an endpoint, by the endpoint's position and the field's column.
     End { place: u32, column: u32 },
     /// A variable, by its number.
     Variable(u32),

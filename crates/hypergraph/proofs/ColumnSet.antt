@@ -4,69 +4,69 @@ use Rattle.std.specs.Prelude.{slice_set, IfSome}
 use Rattle.std.proofs.lemmas.Bool.{cases_eq}
 use Rattle.std.proofs.lemmas.List.{get_or-set_same, get_or-set_other, length-set}
 use Rattle.std.proofs.lemmas.List.Elements.{All-set}
-use Rattle.hypergraph.specs.SetShape.{SetShape, IsSetData, EndsBelow, with_column}
-use Rattle.hypergraph.specs.Sets.{AreSets, FitsAmong, set_at, empty_set, count_over, end_bound}
+use Rattle.hypergraph.specs.SetValue.{SetValue, IsSetData, EndpointsBelow, with_column}
+use Rattle.hypergraph.specs.Sets.{AreSets, IsSetAmong, set_at, empty_set, count_over, endpoint_bound}
 
 -- two sets that differ in their columns alone
-record SameEnds (a b : SetShape) : Type 0 where
+record SameEnds (a b : SetValue) : Type 0 where
   count : b.count ≡ a.count
   over : b.over ≡ a.over
   arity : b.arity ≡ a.arity
-  ends : b.ends ≡ a.ends
+  endpoints : b.endpoints ≡ a.endpoints
 
--- a set in place of one that differs from it in its columns alone
-same-set_at : (sets : List SetShape) (number : ℕ) (set : SetShape) → number < length sets → SameEnds (set_at sets number) set → (n : ℕ) → SameEnds (set_at sets n) (set_at (slice_set sets number set) n)
+-- a set in position of one that differs from it in its columns alone
+same-set_at : (sets : List SetValue) (number : ℕ) (set : SetValue) → number < length sets → SameEnds (set_at sets number) set → (n : ℕ) → SameEnds (set_at sets n) (set_at (slice_set sets number set) n)
 same-set_at sets number set in' same n = elim (cases_eq n number) [
   | inl e ↦ rw (e, get_or-set_same sets number set empty_set in') same
-  | inr ne ↦ rw (get_or-set_other sets number n set empty_set ne) (record { count = refl; over = refl; arity = refl; ends = refl })
+  | inr ne ↦ rw (get_or-set_other sets number n set empty_set ne) (record { count = refl; over = refl; arity = refl; endpoints = refl })
 ]
 
--- a set in place of another, among sets
-is_set-set_at : (sets : List SetShape) (number : ℕ) (set : SetShape) → number < length sets → IsSetData set → (n : ℕ) → IsSetData (set_at sets n) → IsSetData (set_at (slice_set sets number set) n)
+-- a set in position of another, among sets
+is_set-set_at : (sets : List SetValue) (number : ℕ) (set : SetValue) → number < length sets → IsSetData set → (n : ℕ) → IsSetData (set_at sets n) → IsSetData (set_at (slice_set sets number set) n)
 is_set-set_at sets number set in' is_set n before = elim (cases_eq n number) [
   | inl e ↦ rw (e, get_or-set_same sets number set empty_set in') is_set
   | inr ne ↦ rw (get_or-set_other sets number n set empty_set ne) before
 ]
 
 -- a set still lies over an earlier vertex set
-earlier-same : (sets sets' : List SetShape) (number : ℕ) (over : Option ℕ) → ((n : ℕ) → SameEnds (set_at sets n) (set_at sets' n)) → IfSome over (λ o. (o < number) × ((set_at sets o).arity ≡ 0)) → IfSome over (λ o. (o < number) × ((set_at sets' o).arity ≡ 0))
+earlier-same : (sets sets' : List SetValue) (number : ℕ) (over : Option ℕ) → ((n : ℕ) → SameEnds (set_at sets n) (set_at sets' n)) → IfSome over (λ o. (o < number) × ((set_at sets o).arity ≡ 0)) → IfSome over (λ o. (o < number) × ((set_at sets' o).arity ≡ 0))
 earlier-same sets sets' number None same earlier = tt
 earlier-same sets sets' number (Some o) same earlier = (earlier.0, (same o).arity ∙ earlier.1)
 
-count_over-same : (sets sets' : List SetShape) (over : Option ℕ) → ((n : ℕ) → SameEnds (set_at sets n) (set_at sets' n)) → count_over sets' over ≡ count_over sets over
+count_over-same : (sets sets' : List SetValue) (over : Option ℕ) → ((n : ℕ) → SameEnds (set_at sets n) (set_at sets' n)) → count_over sets' over ≡ count_over sets over
 count_over-same sets sets' None same = refl
 count_over-same sets sets' (Some o) same = (same o).count
 
 -- endpoints stay below a bound
-below-same : (a b : SetShape) (bound : ℕ) → SameEnds a b → EndsBelow a bound → EndsBelow b bound
-below-same a b bound same below element place element_in place_in =
-    rw (same.ends, same.arity) (below element place (rw same.count at element_in) (rw same.arity at place_in))
+below-same : (a b : SetValue) (bound : ℕ) → SameEnds a b → EndpointsBelow a bound → EndpointsBelow b bound
+below-same a b bound same below element position element_in position_in =
+    rw (same.endpoints, same.arity) (below element position (rw same.count at element_in) (rw same.arity at position_in))
 
-fits-same : (sets sets' : List SetShape) (number : ℕ) → ((n : ℕ) → SameEnds (set_at sets n) (set_at sets' n)) → IsSetData (set_at sets' number) → FitsAmong sets number → FitsAmong sets' number
+fits-same : (sets sets' : List SetValue) (number : ℕ) → ((n : ℕ) → SameEnds (set_at sets n) (set_at sets' n)) → IsSetData (set_at sets' number) → IsSetAmong sets number → IsSetAmong sets' number
 fits-same sets sets' number same is_set fits = record {
   is_set = is_set;
   over_earlier = rw (same number).over (earlier-same sets sets' number (set_at sets number).over same fits.over_earlier);
-  ends_below =
-      let bound : end_bound sets' number ≡ end_bound sets number = rw (same number).over (count_over-same sets sets' (set_at sets number).over same) in
-      rw bound (below-same (set_at sets number) (set_at sets' number) (end_bound sets number) (same number) fits.ends_below);
+  endpoints_below =
+      let bound : endpoint_bound sets' number ≡ endpoint_bound sets number = rw (same number).over (count_over-same sets sets' (set_at sets number).over same) in
+      rw bound (below-same (set_at sets number) (set_at sets' number) (endpoint_bound sets number) (same number) fits.endpoints_below);
 }
 
 -- with as many words in a column, a set is a set
-is_set-with_column : (set : SetShape) (column : ℕ) (words : List ℕ) → length words ≡ set.count → IsSetData set → IsSetData (with_column set column words)
+is_set-with_column : (set : SetValue) (column : ℕ) (words : List ℕ) → length words ≡ set.count → IsSetData set → IsSetData (with_column set column words)
 is_set-with_column set column words as_many is_set = record {
   few_elements = is_set.few_elements;
-  few_ends = is_set.few_ends;
+  few_endpoints = is_set.few_endpoints;
   few_columns = rw length-set is_set.few_columns;
   over_none = is_set.over_none;
-  ends = is_set.ends;
+  endpoints = is_set.endpoints;
   one_word_each = All-set (λ w. length w ≡ set.count) set.columns column words as_many is_set.one_word_each;
 }
 
 -- with as many words in a column of one set, they are sets
-pub are_sets-with_column : (sets : List SetShape) (number column : ℕ) (words : List ℕ) → number < length sets → length words ≡ (set_at sets number).count → AreSets sets → AreSets (slice_set sets number (with_column (set_at sets number) column words))
+pub are_sets-with_column : (sets : List SetValue) (number column : ℕ) (words : List ℕ) → number < length sets → length words ≡ (set_at sets number).count → AreSets sets → AreSets (slice_set sets number (with_column (set_at sets number) column words))
 are_sets-with_column sets number column words in' as_many sets_are =
     let changed = with_column (set_at sets number) column words in
-    let same = same-set_at sets number changed in' (record { count = refl; over = refl; arity = refl; ends = refl }) in
+    let same = same-set_at sets number changed in' (record { count = refl; over = refl; arity = refl; endpoints = refl }) in
     let is_set = is_set-with_column (set_at sets number) column words as_many (sets_are.each number in').is_set in
     record {
       few = rw length-set sets_are.few;

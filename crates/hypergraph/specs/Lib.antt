@@ -1,4 +1,4 @@
-pub mod SetShape
+pub mod SetValue
 pub mod Sets
 pub mod Incident
 pub mod BadEndpoint

@@ -1,13 +1,14 @@
 //! The check of endpoints.
 ghost use Rattle.std.specs.Prelude.{◌≡◌, ◌<◌, ◌≤◌, IfSome, MatchOption, length};
-ghost use Rattle.hypergraph.specs.Sets.{AreSets, AllLieOverEarlier, count_over, most_sets};
+ghost use Rattle.vocabulary.specs.declared.limits.TheConstants.{MOST_SETS};
+ghost use Rattle.hypergraph.specs.Sets.{AreSets, AllLieOverEarlier, count_over};
 ghost use Rattle.hypergraph.specs.BadEndpoint.{IsFirstBad};
 
 use crate::{BadEndpoint, SetData};
 
 /// The first endpoint of these sets that isn't below the count of the set that it lies in.
 pub(crate) fn first_bad(sets: &[SetData]) -> Option<BadEndpoint>
-    requires few { length sets.now ≤ most_sets }
+    requires few { length sets.now ≤ MOST_SETS }
     requires over_earlier { AllLieOverEarlier sets.now }
     ensures { MatchOption result (AreSets sets.now) (λ bad. IsFirstBad sets.now bad) }
 {

@@ -1,11 +1,6 @@
 use thiserror::Error;
 
-/// Out of memory.
-#[derive(Clone, Copy, Debug, PartialEq, Eq, Error)]
-#[error("out of memory")]
-pub struct NoMemory;
-
-/// An endpoint that isn't below the count of the set that it lies in, by its place.
+/// An endpoint that isn't below the count of the set that it lies in, by its position.
 #[derive(Clone, Copy, Debug, PartialEq, Eq, Error)]
 #[error("no such endpoint: place {place} of element {element} of set {set}")]
 pub struct BadEndpoint {

@@ -1,10 +1,10 @@
 use crate::endpoints::first_bad;
-use crate::{BadEndpoint, NoMemory, SetData};
-use ring_words::L;
+use crate::{BadEndpoint, SetData};
 use std::alloc::Global;
 use std::marker::Model;
+use vocabulary::{L, NoMemory};
 
-/// At most 8 sets, each with its endpoints in an earlier vertex set, where every endpoint is an element.
+/// At most `MOST_SETS` sets, each with its endpoints in an earlier vertex set, where every endpoint is an element.
 #[derive(Drop)]
 pub struct Sets {
     sets: Vec<SetData>,
@@ -12,10 +12,10 @@ pub struct Sets {
 
 impl Model for Sets {
     ghost use Rattle.std.specs.Prelude.{List};
-    ghost use Rattle.hypergraph.specs.SetShape.{SetShape};
+    ghost use Rattle.hypergraph.specs.SetValue.{SetValue};
     ghost use Rattle.hypergraph.specs.Sets.{AreSets};
 
-    ghost Value = { List SetShape };
+    ghost Value = { List SetValue };
 
     ghost view = { λ s. s.sets.items };
 
@@ -24,16 +24,17 @@ impl Model for Sets {
 
 impl Sets {
     ghost use Rattle.std.specs.Prelude.{◌≡◌, ◌<◌, ◌≤◌, ◌↔◌, IfErr, IfOk, IsNone, length, slice_set};
-    ghost use Rattle.hypergraph.specs.SetShape.{column_at, end_at, most_columns, most_elements, most_ends, with_column};
-    ghost use Rattle.hypergraph.specs.Sets.{AreSets, AllLieOverEarlier, LiesOverEarlier, end_bound, most_sets, set_at};
+    ghost use Rattle.vocabulary.specs.declared.limits.TheConstants.{MOST_COLUMNS, MOST_ELEMENTS, MOST_ENDPOINTS, MOST_SETS};
+    ghost use Rattle.hypergraph.specs.SetValue.{column_at, endpoint_at, with_column};
+    ghost use Rattle.hypergraph.specs.Sets.{AreSets, AllLieOverEarlier, LiesOverEarlier, endpoint_bound, set_at};
     ghost use Rattle.hypergraph.specs.Incident.{incident_elements};
     ghost use Rattle.hypergraph.specs.BadEndpoint.{IsFirstBad};
 
     /// These sets, of which each that has endpoints lies over an earlier one without. Where an endpoint isn't
-    /// below the count of the set that it lies in, the first such one: by set, then by element, then by place.
+    /// below the count of the set that it lies in, the first such one: by set, then by element, then by position.
     /// The list is given up then. This takes no memory.
     pub fn of(list: Vec<SetData>) -> Result<Sets, BadEndpoint>
-        requires few { length list.items ≤ most_sets }
+        requires few { length list.items ≤ MOST_SETS }
         requires over_earlier { AllLieOverEarlier list.items }
         ensures same { IfOk result (λ sets. sets ≡ list.items) }
         ensures sets { IfOk result (λ sets. AreSets sets) }
@@ -59,7 +60,7 @@ impl Sets {
     pub fn count(&self, set: u32) -> u32
         requires { set < length self.now }
         ensures value { result ≡ (set_at self.now set).count }
-        ensures bound { result ≤ most_elements }
+        ensures bound { result ≤ MOST_ELEMENTS }
     {
         self.set(set).count()
     }
@@ -69,7 +70,7 @@ impl Sets {
     pub fn arity(&self, set: u32) -> u32
         requires { set < length self.now }
         ensures value { result ≡ (set_at self.now set).arity }
-        ensures bound { result ≤ most_ends }
+        ensures bound { result ≤ MOST_ENDPOINTS }
     {
         self.set(set).arity()
     }
@@ -79,7 +80,7 @@ impl Sets {
     pub fn columns(&self, set: u32) -> u32
         requires { set < length self.now }
         ensures value { result ≡ length (set_at self.now set).columns }
-        ensures bound { result ≤ most_columns }
+        ensures bound { result ≤ MOST_COLUMNS }
     {
         self.set(set).columns()
     }
@@ -96,16 +97,16 @@ impl Sets {
         self.set(set).over()
     }
 
-    /// The endpoint at a place of an element.
+    /// The endpoint at a position of an element.
     #[inline]
-    pub fn end(&self, set: u32, element: u32, place: u32) -> u32
+    pub fn end(&self, set: u32, element: u32, position: u32) -> u32
         requires set { set < length self.now }
         requires element { element < (set_at self.now set).count }
-        requires place { place < (set_at self.now set).arity }
-        ensures value { result ≡ end_at (set_at self.now set) element place }
-        ensures bound { result < end_bound self.now set }
+        requires position { position < (set_at self.now set).arity }
+        ensures value { result ≡ endpoint_at (set_at self.now set) element position }
+        ensures bound { result < endpoint_bound self.now set }
     {
-        self.set(set).end(element, place)
+        self.set(set).end(element, position)
     }
 
     /// The words of a column, one per element.

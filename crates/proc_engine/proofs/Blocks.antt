@@ -3,7 +3,7 @@ use Rattle.std.proofs.Common.{◌≡◌, ℕ, suc, ◌+◌, ◌<◌, List, [], �
 use Rattle.std.specs.List.{range_with_len}
 use Rattle.std.proofs.lemmas.List.FromFn.{map-range_with_len_more}
 
--- a list that has f (a + k) at each place k continues the list of f below a
+-- a list that has f (a + k) at each index k continues the list of f below a
 pub block_follows : (f : ℕ → ℕ) (xs : List ℕ) (a : ℕ) → ((k : ℕ) → k < length xs → get_or xs k 0 ≡ f (a + k))
     → map f (range_with_len 0 a) ++ xs ≡ map f (range_with_len 0 (a + length xs))
 block_follows f [] a h = append-nil _ ∙ ap (λ n. map f (range_with_len 0 n)) (omega arith)

@@ -4,19 +4,18 @@ use Rattle.std.proofs.lemmas.Bool.{and_parts, ltb-true}
 use Rattle.std.proofs.lemmas.List.{drop_more, drop_all, take_more_set}
 use Rattle.ring_words.specs.Word.{add}
 use Rattle.global_algebra.specs.Element.{Site, Contribution, contributions, value, end_of}
-use Rattle.global_algebra.specs.Adding.{added}
+use Rattle.global_algebra.specs.Adding.{added, AddsNothing, AddsTheFirst}
 use Rattle.global_algebra.specs.Fits.{Scope, is_in_scope, steps_in_scope}
 use Rattle.global_algebra.specs.declared.program.Expr.{Expr}
 use Rattle.global_algebra.specs.declared.program.Step.{Step}
 use Rattle.global_algebra.specs.declared.program.Step.TheVariants.{Var, Write}
-use Rattle.global_algebra.proofs.AddingSums.{added_first, added_none}
 
 -- the steps from one on begin with it
 from_here : (steps : List Step) (i : ℕ) (step other : Step) → i < length steps → step ≡ get_or steps i step → step ≡ other → drop i steps ≡ other ∷ drop (i + 1) steps
 from_here steps i step other below here is =
     drop_more steps i step below ∙ ap (λ s. s ∷ drop (i + 1) steps) (sym here ∙ is)
 
--- what a variable's step and the steps behind it name is there
+-- what a variable's step and the steps after it name is there
 var_parts : (scope : Scope) (n : ℕ) (expr : Expr) (rest : List Step) → steps_in_scope scope n (Var expr ∷ rest) ≡ true
     → (is_in_scope scope n expr ≡ true) × (steps_in_scope scope (n + 1) rest ≡ true)
 unfolding steps_in_scope
@@ -27,7 +26,7 @@ pub var_scope : (scope : Scope) (n : ℕ) (steps : List Step) (i : ℕ) (step : 
 var_scope scope n steps i step expr below here is all =
     var_parts scope n expr (drop (i + 1) steps) (sym (ap (steps_in_scope scope n) (from_here steps i step (Var expr) below here is)) ∙ all)
 
--- so is what a write's step and the steps behind it name
+-- so is what a write's step and the steps after it name
 write_parts : (scope : Scope) (n place : ℕ) (expr : Expr) (rest : List Step) → steps_in_scope scope n (Write place expr ∷ rest) ≡ true
     → (place < scope.places) × (is_in_scope scope n expr ≡ true) × (steps_in_scope scope n rest ≡ true)
 unfolding steps_in_scope
@@ -43,12 +42,12 @@ pub write_scope : (scope : Scope) (n : ℕ) (steps : List Step) (i : ℕ) (step 
 write_scope scope n steps i step place expr below here is all =
     write_parts scope n place expr (drop (i + 1) steps) (sym (ap (steps_in_scope scope n) (from_here steps i step (Write place expr) below here is)) ∙ all)
 
--- a variable more
+-- another variable
 var_contributions : (site : Site) (variables : List ℕ) (expr : Expr) (rest : List Step) → contributions site variables (Var expr ∷ rest) ≡ contributions site (variables ++ value site variables expr ∷ []) rest
 unfolding contributions
 var_contributions site variables expr rest = refl
 
--- a contribution more
+-- another contribution
 write_contributions : (site : Site) (variables : List ℕ) (place : ℕ) (expr : Expr) (rest : List Step)
     → contributions site variables (Write place expr ∷ rest) ≡ record { row = end_of site place; word = value site variables expr } ∷ contributions site variables rest
 unfolding contributions
@@ -72,11 +71,11 @@ var_left site into into' variables variables' n n' steps i step expr word all be
 
 -- so do they after a write's step, which has added its contribution
 pub write_left : (site : Site) (into into' variables variables' : List ℕ) (n n' : ℕ) (steps : List Step) (i : ℕ) (step : Step) (place row : ℕ) (expr : Expr) (word : ℕ) (all : List ℕ)
-    → i < length steps → step ≡ get_or steps i step → step ≡ Write place expr
+    → AddsTheFirst → i < length steps → step ≡ get_or steps i step → step ≡ Write place expr
     → word ≡ value site (take n variables) expr → row ≡ end_of site place → variables' ≡ variables → n' ≡ n → into' ≡ set into row (add (get_or into row 0) word)
     → added into (contributions site (take n variables) (drop i steps)) ≡ all
     → added into' (contributions site (take n' variables') (drop (i + 1) steps)) ≡ all
-write_left site into into' variables variables' n n' steps i step place row expr word all below here is word_is row_is variables_is n_is into_is before =
+write_left site into into' variables variables' n n' steps i step place row expr word all adds_first below here is word_is row_is variables_is n_is into_is before =
     let rest = drop (i + 1) steps in
     let known = take n variables in
     let value_here = value site known expr in
@@ -87,15 +86,15 @@ write_left site into into' variables variables' n n' steps i step place row expr
     let written : into' ≡ set into first.row (add (get_or into first.row 0) first.word) =
     into_is ∙ ap (λ r. set into r (add (get_or into r 0) word)) row_is ∙ ap (λ w. set into first.row (add (get_or into first.row 0) w)) word_is in
     ap (λ vs. added into' (contributions site vs rest)) same ∙ ap (λ l. added l (contributions site known rest)) written
-    ∙ sym (added_first into first (contributions site known rest)) ∙ ap (added into) (sym front) ∙ before
+    ∙ sym (adds_first into first (contributions site known rest)) ∙ ap (added into) (sym front) ∙ before
 
 -- no step is left
 none_contributions : (site : Site) (variables : List ℕ) → contributions site variables [] ≡ []
 unfolding contributions
 none_contributions site variables = refl
 
-pub none_left : (site : Site) (into variables : List ℕ) (steps : List Step) (i : ℕ) (all : List ℕ) → length steps ≤ i
+pub none_left : (site : Site) (into variables : List ℕ) (steps : List Step) (i : ℕ) (all : List ℕ) → AddsNothing → length steps ≤ i
     → added into (contributions site variables (drop i steps)) ≡ all → into ≡ all
-none_left site into variables steps i all past before =
+none_left site into variables steps i all adds_nothing past before =
     let nothing : contributions site variables (drop i steps) ≡ [] = ap (contributions site variables) (drop_all i steps past) ∙ none_contributions site variables in
-    sym (ap (added into) nothing ∙ added_none into) ∙ before
+    sym (ap (added into) nothing ∙ adds_nothing into) ∙ before

@@ -8,13 +8,14 @@ ghost use Rattle.global_algebra.specs.Fits.{steps_in_scope};
 ghost use Rattle.proc_engine.specs.Mapped.{IsElement, IsMappedOver, scope_in};
 
 use crate::expression::evaluate;
-use global_algebra::Step;
-use hypergraph::{NoMemory, Sets};
+use global_algebra::{Step, adding_law};
+use hypergraph::Sets;
 use ring_words::add;
 use std::alloc::Global;
+use vocabulary::NoMemory;
 
 /// Adds what one element contributes into the column of the set `over`, in which its endpoints lie. `variables` is
-/// room for as many words as there are steps.
+/// a buffer of as many words as there are steps.
 fn add_element(
     steps: &[Step],
     sets: &Sets,
@@ -26,10 +27,11 @@ fn add_element(
 )
     requires element { IsElement sets.now mapped over element }
     requires scope { steps_in_scope (scope_in sets.now mapped) 0 steps.now ≡ true }
-    requires room { length steps.now ≤ length variables.old }
+    requires buffer { length steps.now ≤ length variables.old }
     requires rows { length into.old ≡ (set_at sets.now over).count }
     ensures { into.new ≡ added into.old (contributions (site_of sets.now mapped element) [] steps.now) }
 {
+    adding_law();
     let mut known = 0;
     for step in steps {
         match step {
@@ -57,16 +59,17 @@ fn add_elements(
 )
     requires mapped { IsMappedOver sets.now mapped over }
     requires scope { steps_in_scope (scope_in sets.now mapped) 0 steps.now ≡ true }
-    requires room { length steps.now ≤ length variables.old }
+    requires buffer { length steps.now ≤ length variables.old }
     requires rows { length into.old ≡ (set_at sets.now over).count }
     ensures { into.new ≡ added into.old (all_contributions sets.now mapped steps.now) }
 {
+    adding_law();
     for element in 0..sets.count(mapped) {
         add_element(steps, sets, mapped, over, element, variables, into);
     }
 }
 
-/// Puts so many zeros into a vector in place of what it holds.
+/// Replaces what a vector holds by this many zeros.
 fn fill_with_zeros(words: &mut Vec<u64>, count: usize) -> Result<(), NoMemory>
     ensures { OnOk result (words.new.items ≡ replicate count 0) }
 {
@@ -75,8 +78,8 @@ fn fill_with_zeros(words: &mut Vec<u64>, count: usize) -> Result<(), NoMemory>
     words.resize(count, 0).map_err(|_| NoMemory)
 }
 
-/// Puts the vector that the steps assemble over the set `mapped`, one word for each element of the set `over` in
-/// which its endpoints lie, into a vector in place of what it holds.
+/// Replaces what a vector holds by the vector that the steps assemble over the set `mapped`: one word for each
+/// element of the set `over` in which its endpoints lie.
 pub(crate) fn assemble_into(
     alloc: Global,
     steps: &[Step],
@@ -89,6 +92,7 @@ pub(crate) fn assemble_into(
     requires scope { steps_in_scope (scope_in sets.now mapped) 0 steps.now ≡ true }
     ensures { OnOk result (words.new.items ≡ assembled (set_at sets.now over).count (all_contributions sets.now mapped steps.now)) }
 {
+    adding_law();
     let mut variables = vec![in alloc; 0; steps.len()].map_err(|_| NoMemory)?;
     fill_with_zeros(words, sets.count(over) as usize)?;
     add_elements(steps, sets, mapped, over, &mut variables, words);

@@ -9,8 +9,9 @@ ghost use Rattle.global_algebra.specs.Run.{sums_over};
 ghost use Rattle.global_algebra.specs.Fits.{IsTermOver, AreTermsOver};
 
 use global_algebra::Term;
-use hypergraph::{NoMemory, Sets};
+use hypergraph::Sets;
 use ring_words::{add, mul, sub};
+use vocabulary::NoMemory;
 
 /// How many elements are computed at a time.
 const BLOCK: usize = 512;
@@ -24,7 +25,7 @@ fn product_of(numbers: &[u64]) -> u64
         .fold(1, |product, number| mul(product, *number))
 }
 
-/// Multiplies each word by the word at its place.
+/// Multiplies each word by the word at the same index.
 fn mul_into(into: &mut [u64], by: &[u64])
     requires { length into.old ≤ length by.now }
     ensures { EachIndex into.old (λ k. slice_index into.new k ≡ words.mul (slice_index into.old k) (slice_index by.now k)) }
@@ -34,7 +35,7 @@ fn mul_into(into: &mut [u64], by: &[u64])
     }
 }
 
-/// Adds to each word the word at its place.
+/// Adds to each word the word at the same index.
 fn add_into(into: &mut [u64], by: &[u64])
     requires { length into.old ≤ length by.now }
     ensures { EachIndex into.old (λ k. slice_index into.new k ≡ words.add (slice_index into.old k) (slice_index by.now k)) }
@@ -44,7 +45,7 @@ fn add_into(into: &mut [u64], by: &[u64])
     }
 }
 
-/// Takes away from each word the word at its place.
+/// Takes away from each word the word at the same index.
 fn sub_into(into: &mut [u64], by: &[u64])
     requires { length into.old ≤ length by.now }
     ensures { EachIndex into.old (λ k. slice_index into.new k ≡ words.sub (slice_index into.old k) (slice_index by.now k)) }
@@ -67,7 +68,7 @@ fn term_products(sets: &Sets, set: u32, term: &Term, from: usize, products: &mut
     }
 }
 
-/// The sums at the elements from `from` on; `products` is room for as many words as `totals` has.
+/// The sums at the elements from `from` on; `products` is a buffer of as many words as `totals` has.
 fn block_sums(
     sets: &Sets,
     set: u32,
@@ -79,7 +80,7 @@ fn block_sums(
     requires set { set < length sets.now }
     requires fields { AreTermsOver (length (set_at sets.now set).columns) terms.now }
     requires within { from + length totals.old ≤ (set_at sets.now set).count }
-    requires room { length products.old ≡ length totals.old }
+    requires buffer { length products.old ≡ length totals.old }
     ensures { EachIndex totals.old (λ k. slice_index totals.new k ≡ sum_at (set_at sets.now set).columns (from + k) terms.now) }
 {
     totals.fill(0);
@@ -93,7 +94,7 @@ fn block_sums(
     }
 }
 
-/// Puts the words of a right side, one for each element of the set, into a vector in place of what it holds.
+/// Replaces what a vector holds by the words of a right side, one for each element of the set.
 pub(crate) fn sums_into(
     sets: &Sets,
     set: u32,

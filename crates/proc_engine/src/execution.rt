@@ -5,32 +5,33 @@ ghost use Rattle.global_algebra.specs.Fits.{IsWellFormed, SetsFit, StatementFits
 
 use crate::assembly::assemble_into;
 use crate::assignment::sums_into;
-use global_algebra::{Program, Statement};
-use hypergraph::{NoMemory, Sets};
-use ring_words::L;
+use global_algebra::{Program, Statement, adding_law};
+use hypergraph::Sets;
 use std::alloc::Global;
+use vocabulary::{L, NoMemory};
 
-/// The sets after the program, where memory serves. On want of memory the sets are given up.
+/// The sets after the program, where memory serves. Where memory runs out the sets are given up.
 pub fn execute(alloc: Global, program: &Program, mut sets: Sets) -> Result<Sets, NoMemory>
     requires well_formed { IsWellFormed program.now }
     requires sets { SetsFit program.now sets }
     ensures after { IfOk result (λ after. after ≡ run program.now sets) }
     ensures fit { IfOk result (λ after. SetsFit program.now after) }
 {
-    let mut room = Vec::new(alloc);
+    let mut buffer = Vec::new(alloc);
     for statement in program.statements.items() {
-        room = execute_statement(alloc, program, statement, &mut sets, room)?;
+        buffer = execute_statement(alloc, program, statement, &mut sets, buffer)?;
     }
     Ok(sets)
 }
 
-/// Replaces a statement's target. The new column takes the room that is handed in, and the old one's is handed back.
+/// Replaces a statement's target. The new column takes the buffer that is handed in, and the old column's buffer is
+/// handed back.
 fn execute_statement(
     alloc: Global,
     program: &Program,
     statement: &Statement,
     sets: &mut Sets,
-    mut room: Vec<u64>,
+    mut buffer: Vec<u64>,
 ) -> Result<Vec<u64>, NoMemory>
     requires statement { StatementFits program.now statement.now }
     requires sets { SetsFit program.now sets.old }
@@ -39,8 +40,8 @@ fn execute_statement(
 {
     match statement {
         Statement::Assign { set, column, terms } => {
-            sums_into(sets, *set, terms.items(), &mut room)?;
-            Ok(sets.set_column(*set, *column, L::of(room)).into_vec())
+            sums_into(sets, *set, terms.items(), &mut buffer)?;
+            Ok(sets.set_column(*set, *column, L::of(buffer)).into_vec())
         }
         Statement::Map {
             set,
@@ -48,6 +49,7 @@ fn execute_statement(
             function,
             mapped,
         } => {
+            adding_law();
             let function = &program.functions.items()[*function as usize];
             assemble_into(
                 alloc,
@@ -55,9 +57,9 @@ fn execute_statement(
                 sets,
                 *mapped,
                 *set,
-                &mut room,
+                &mut buffer,
             )?;
-            Ok(sets.set_column(*set, *column, L::of(room)).into_vec())
+            Ok(sets.set_column(*set, *column, L::of(buffer)).into_vec())
         }
     }
 }

@@ -5,7 +5,5 @@ mod assembly;
 mod assignment;
 mod execution;
 mod expression;
-#[cfg(test)]
-mod tests;
 
 pub use execution::execute;

@@ -3,15 +3,15 @@ use Rattle.std.proofs.Common.{◌≡◌, ℕ, ◌+◌, ◌<◌, ◌≤◌, List,
 use Rattle.std.proofs.lemmas.List.{drop_more, drop_all}
 use Rattle.program_forms.specs.Tries.{try_fold, with_value, ◌>>=◌}
 
-first : {A B : Type 0} (one : A → B → Option A) (known : A) (x : B) (xs : List B) → try_fold one known (x ∷ xs) ≡ (one known x >>= λ next. try_fold one next xs)
+pub first : {A B : Type 0} (one : A → B → Option A) (known : A) (x : B) (xs : List B) → try_fold one known (x ∷ xs) ≡ (one known x >>= λ next. try_fold one next xs)
 unfolding try_fold
 first one known x xs = refl
 
-nothing : {A B : Type 0} (one : A → B → Option A) (known : A) → try_fold one known [] ≡ Some known
+pub nothing : {A B : Type 0} (one : A → B → Option A) (known : A) → try_fold one known [] ≡ Some known
 unfolding try_fold
 nothing one known = refl
 
--- one item more
+-- another item
 pub one_more : {A B : Type 0} (one : A → B → Option A) (known next : A) (xs : List B) (i : ℕ) (x : B)
     → i < length xs → x ≡ get_or xs i x → one known x ≡ Some next
     → try_fold one next (drop (i + 1) xs) ≡ try_fold one known (drop i xs)
@@ -36,7 +36,7 @@ none_left one known xs i past = ap (try_fold one known) (drop_all i xs past) ∙
 
 -- ---- the values of items
 
--- one value more
+-- another value
 pub value_more : {A B : Type 0} (f : A → Option B) (values : List B) (xs : List A) (i : ℕ) (x : A) (y : B)
     → i < length xs → x ≡ get_or xs i x → f x ≡ Some y
     → try_fold with_value (values ++ y ∷ []) (map f (drop (i + 1) xs)) ≡ try_fold with_value values (map f (drop i xs))

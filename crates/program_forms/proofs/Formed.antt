@@ -74,7 +74,7 @@ is_formed program are functions statements = record {
   statements = λ k d below. statement_fits program (get_or program.statements k d) are functions (statements k d below);
 }
 
-are_small : (sets : List SetDeclaration) → AreSets sets → (length sets ≤ 2) × All IsSmallSet sets
+pub are_small : (sets : List SetDeclaration) → AreSets sets → (length sets ≤ 2) × All IsSmallSet sets
 are_small [] are = (omega arith, λ k d below. absurd (omega arith))
 are_small (vertices ∷ []) are = (omega arith, λ k d below. one k d below)
   where

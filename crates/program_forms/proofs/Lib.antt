@@ -1,4 +1,11 @@
 pub mod Folds
+pub mod Somes
 pub mod StepsMore
-pub mod Formed
 pub mod Nodes
+pub mod Reserved
+pub mod ShapeFacts
+pub mod ExpressionFacts
+pub mod FunctionFacts
+pub mod StatementFacts
+pub mod Formed
+pub mod Whole

@@ -21,7 +21,7 @@ use Rattle.program_forms.proofs.Folds.{value_more, value_refused, no_value_left}
 both_true : (a b : Bool) → a ≡ true → b ≡ true → (a && b) ≡ true
 both_true a b ea eb = rw (ea, eb) refl
 
-all_push : {A : Type 0} (test : A → Bool) (xs : List A) (x : A) → all_true (map test xs) ≡ true → test x ≡ true → all_true (map test (xs ++ x ∷ [])) ≡ true
+pub all_push : {A : Type 0} (test : A → Bool) (xs : List A) (x : A) → all_true (map test xs) ≡ true → test x ≡ true → all_true (map test (xs ++ x ∷ [])) ≡ true
 all_push test xs x before here =
     ap all_true (map-append test xs (x ∷ [])) ∙ list_all-append (λ t. t) (map test xs) (test x ∷ [])
     ∙ both_true _ _ before (both_true _ _ here refl)

@@ -1,4 +1,4 @@
--- A body that gets one step more.
+-- A body that gets another step.
 use Rattle.std.proofs.Common.{◌≡◌, ℕ, ◌+◌, ◌<◌, Bool, true, false, ◌&&◌, nat_lt, List, [], ◌∷◌, ◌++◌, length, refl, sym, ap, ◌∙◌, arith}
 use Rattle.std.specs.List.{sum_by}
 use Rattle.std.proofs.lemmas.List.Sums.{sum_by-cons, sum_by_push}
@@ -32,7 +32,7 @@ right_of : (a b : Bool) → (a && b) ≡ true → b ≡ true
 right_of true b e = e
 right_of false b e = absurd (cc)
 
--- steps in scope, and one more that is in scope behind them
+-- steps in scope, and another that is in scope after them
 pub steps_push : (scope : Scope) (variables : ℕ) (steps : List Step) (step : Step)
     → steps_in_scope scope variables steps ≡ true → step_in_scope scope (variables + sum_by added_by steps) step ≡ true
     → steps_in_scope scope variables (steps ++ step ∷ []) ≡ true
@@ -46,7 +46,7 @@ steps_push scope variables (one ∷ rest) step here next =
     first_step scope variables one (rest ++ step ∷ [])
     ∙ both _ _ (left_of _ _ parts) (steps_push scope (variables + added_by one) rest step (right_of _ _ parts) (ap (λ n. step_in_scope scope n step) (sym count) ∙ next))
 
--- a body with one step more
+-- a body with another step
 pub body_more : (scope : body.Scope) (before : Body) (after : Body) (step : Step) → IsBodyOver scope before
     → step_in_scope (bounds_of scope) (length before.variables) step ≡ true
     → after.steps ≡ before.steps ++ step ∷ [] → length after.variables ≡ length before.variables + added_by step
@@ -70,6 +70,6 @@ pub write_in_scope : (scope : body.Scope) (variables place : ℕ) (value : Expr)
     → step_in_scope (bounds_of scope) variables (Write place value) ≡ true
 write_in_scope scope variables place value within fits = both (nat_lt place scope.places) _ (lt-ltb place scope.places within) fits
 
--- lists of one length, with one item more each
+-- lists of one length, with another item each
 pub as_many_more : {A B : Type 0} (xs : List A) (ys : List B) (x : A) (y : B) → length xs ≡ length ys → length (xs ++ x ∷ []) ≡ length (ys ++ y ∷ [])
 as_many_more xs ys x y same = length-append xs (x ∷ []) ∙ ap (λ n. n + 1) same ∙ sym (length-append ys (y ∷ []))

@@ -1,4 +1,4 @@
--- The expressions of functions, with numbers in place of names.
+-- The expressions of functions, with numbers instead of names.
 use Rattle.std.specs.Prelude.{⊤, ℕ, List, [], ◌∷◌, nat_lt, map, Option, Some, None, if◌then◌else◌}
 use Rattle.std.specs.Str.{bytes_eq}
 use Rattle.sim_syntax.specs.declared.expression.Expr as tree
@@ -43,7 +43,7 @@ reference scope variables name [] (Some field) [] = own_field scope name field
 reference scope variables name (number ∷ []) (Some field) [] = number >>= end_field scope name field
 reference scope variables name args field field_args = None
 
--- one node, with what is resolved of each child in its place
+-- one node, with what is resolved of each child instead of it
 unfoldable pub node : Scope → List Name → Expr-F (Option Expr) (Option Expr) ⊤ (Option SumTerm) → Option Expr
 node scope variables (Expr-F.Number line digits) = number_of digits >>= λ word. Some (expr.Number word)
 node scope variables (Expr-F.Ref line name args field field_args rank) = reference scope variables name args field field_args

@@ -1,6 +1,7 @@
 -- The functions of a program.
 use Rattle.std.specs.Prelude.{ℕ, Bool, true, false, ◌&&◌, ◌||◌, ◌==◌, not, nat_le, nat_lt, List, [], ◌∷◌, ◌++◌, ◌+◌, length, slice_index_or, Option, Some, None, if◌then◌else◌}
 use Rattle.std.specs.Str.{bytes_eq}
+use Rattle.vocabulary.specs.declared.limits.TheConstants.{MOST_STATEMENTS, MOST_TOKENS}
 use Rattle.sim_syntax.specs.declared.expression.Expr as tree
 use Rattle.sim_syntax.specs.declared.declaration.Decl.{Decl}
 use Rattle.sim_syntax.specs.declared.declaration.Decl.TheVariants as decl
@@ -56,7 +57,7 @@ with_write scope body result (place ∷ []) e = do
       then Some (record { variables = body.variables; steps = body.steps ++ Write number value ∷ [] }) else None
 with_write scope body result places e = None
 
--- a statement more of a body
+-- another statement of a body
 unfoldable pub with_step : List Name → Scope → Body → Stmt → Option Body
 with_step names scope body (stmt.Var line variables e) = with_variable names scope body variables e
 with_step names scope body (stmt.Write line result places e) = with_write scope body result places e
@@ -81,7 +82,7 @@ abbrev pub is_count : ℕ → Option ℕ → Bool
 is_count count (Some n) = n == count
 is_count count None = false
 
--- so many endpoints of this type
+-- this many endpoints of this type
 abbrev pub are_endpoints : Name → ℕ → ParamKind → Bool
 are_endpoints type count (kind.Ends line element digits) = bytes_eq type element && is_count count (number_of digits)
 are_endpoints type count other = false
@@ -125,9 +126,9 @@ scope_of_function shape names (s ∷ p ∷ []) (r ∷ []) =
     if has_parts shape s p r && are_declared names shape && are_new names s.name p.name r.name then Some (scope_between shape s.name p.name r.name) else None
 scope_of_function shape names params results = None
 
--- a function more; the functions together have at most 4,096 statements
+-- another function; the functions together have at most MOST_STATEMENTS statements
 unfoldable pub with_function : Shape → Known → Name → List Param → List ResultDecl → List Stmt → Option Known
-with_function shape known name params results body = if not (nat_le (known.statements + length body) 4096) then None else do
+with_function shape known name params results body = if not (nat_le (known.statements + length body) MOST_STATEMENTS) then None else do
   scope ← scope_of_function shape known.names params results
   resolved ← body_of known.names scope body
   names ← with_name known.names name
@@ -138,13 +139,13 @@ with_function shape known name params results body = if not (nat_le (known.state
     statements = known.statements + length body;
   })
 
--- another declaration's name more
+-- the name of another declaration
 unfoldable pub with_other : Known → Name → Option Known
 with_other known name = do
   names ← with_name known.names name
   Some (record { names = names; function_names = known.function_names; functions = known.functions; statements = known.statements })
 
--- a declaration more: its name is new, and known from here on
+-- another declaration: its name is new, and known from here on
 unfoldable pub with_declared : Shape → Known → Decl → Option Known
 with_declared shape known (decl.Element line name fields) = with_other known name
 with_declared shape known (decl.Set line name element ends) = with_other known name
@@ -154,8 +155,9 @@ with_declared shape known (decl.Func line name params results body) = with_funct
 abbrev pub all_declared : Shape → List Decl → Option Known
 all_declared shape decls = try_fold (with_declared shape) (record { names = []; function_names = []; functions = []; statements = 0 }) decls
 
--- all names and functions; where there are two sets, there is a function; a text has at most 65,536 tokens, and so no more functions
+-- all names and functions; where there are two sets, there is a function; a text has at most MOST_TOKENS tokens, and so no
+-- more functions
 unfoldable pub known_of : Shape → List Decl → Option Known
 known_of shape decls = do
   known ← all_declared shape decls
-  if nat_le (length known.functions) 65536 && (nat_le (length shape.sets) 1 || nat_le 1 (length known.functions)) then Some known else None
+  if nat_le (length known.functions) MOST_TOKENS && (nat_le (length shape.sets) 1 || nat_le 1 (length known.functions)) then Some known else None

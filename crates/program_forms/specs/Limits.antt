@@ -1,6 +1,7 @@
 -- How large a resolved program is at most, and what is known of its parts.
 use Rattle.std.specs.Prelude.{◌≡◌, ⊤, ◌≤◌, ◌<◌, ℕ, true, List, [], ◌∷◌, length, All, Some, None}
 use Rattle.std.specs.List.{sum_by}
+use Rattle.vocabulary.specs.declared.limits.TheConstants.{MOST_ENDPOINTS, MOST_FIELDS, MOST_NAME_BYTES, MOST_STATEMENTS}
 use Rattle.global_algebra.specs.Fits.{Scope, scope_with, steps_in_scope, declaration_at, fields_of, added_by, AreTermsOver}
 use Rattle.global_algebra.specs.declared.program.Function.{Function}
 use Rattle.global_algebra.specs.declared.program.SetDeclaration.{SetDeclaration}
@@ -13,16 +14,17 @@ use Rattle.program_forms.specs.declared.functions.Known.{Known}
 use Rattle.program_forms.specs.declared.expressions.Scope as body
 use Rattle.program_forms.specs.declared.shapes.Shape.{Shape}
 
--- names of fields: at most 32, each of at most 64 bytes
+-- names of fields: at most MOST_FIELDS, each of at most MOST_NAME_BYTES bytes
 pub record AreSmall (fields : List (List ℕ)) : Type 0 where
-  pub few : length fields ≤ 32
-  pub short : All (λ field. length field ≤ 64) fields
+  pub few : length fields ≤ MOST_FIELDS
+  pub short : All (λ field. length field ≤ MOST_NAME_BYTES) fields
 
--- a set has at most 32 fields and at most 8 endpoints, and all names have at most 64 bytes
+-- a set has at most MOST_FIELDS fields and at most MOST_ENDPOINTS endpoints, and all names have at most
+-- MOST_NAME_BYTES bytes
 pub record IsSmallSet (set : SetDeclaration) : Type 0 where
-  pub name : length set.name ≤ 64
+  pub name : length set.name ≤ MOST_NAME_BYTES
   pub fields : AreSmall set.fields
-  pub arity : set.arity ≤ 8
+  pub arity : set.arity ≤ MOST_ENDPOINTS
 
 -- a program has one set or two, and they are small
 pub record IsSmall (program : Program) : Type 0 where
@@ -61,8 +63,8 @@ abbrev pub bounds_of : body.Scope → Scope
 bounds_of scope = scope_with (length scope.own) scope.places (length scope.end_fields)
 
 pub record IsSmallScope (scope : body.Scope) : Type 0 where
-  pub own : length scope.own ≤ 32
-  pub ends : length scope.end_fields ≤ 32
+  pub own : length scope.own ≤ MOST_FIELDS
+  pub ends : length scope.end_fields ≤ MOST_FIELDS
 
 -- the steps of a body name what is there, and there are as many variables as they make
 pub record IsBodyOver (scope : body.Scope) (resolved : Body) : Type 0 where
@@ -84,12 +86,12 @@ pub record IsScopeOver (sets : List SetDeclaration) (scope : body.Scope) : Type 
   pub bounds : bounds_of scope ≡ bounds_between sets
   pub two : length sets ≡ 2
 
--- functions are there for two sets alone, have names, name what is there, and have at most 4,096 statements
+-- functions are there for two sets alone, have names, name what is there, and have at most MOST_STATEMENTS statements
 pub record IsKnownOver (sets : List SetDeclaration) (known : Known) : Type 0 where
   pub each : All (IsFunctionOver sets) known.functions
   pub two : 1 ≤ length known.functions → length sets ≡ 2
   pub named : length known.function_names ≡ length known.functions
-  pub few : known.statements ≤ 4096
+  pub few : known.statements ≤ MOST_STATEMENTS
 
 -- ---- statements
 
@@ -98,7 +100,7 @@ pub record IsFieldPlace (sets : List SetDeclaration) (set column : ℕ) : Type 0
   pub set_in : set < length sets
   pub column_in : column < fields_of sets set
 
--- a map names a field of the vertex set, the edge set and one of so many functions
+-- a map names a field of the vertex set, the edge set and one of this many functions
 pub record IsMapOver (sets : List SetDeclaration) (functions set column function mapped : ℕ) : Type 0 where
   pub vertices : set ≡ 0
   pub edges : mapped ≡ 1

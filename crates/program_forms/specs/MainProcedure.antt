@@ -1,6 +1,7 @@
--- The statements of the main procedure, with numbers in place of names.
+-- The statements of the main procedure, with numbers instead of names.
 use Rattle.std.specs.Prelude.{ℕ, ◌&&◌, ◌==◌, ◌+◌, nat_le, List, [], ◌∷◌, ◌++◌, length, position, Option, Some, None, if◌then◌else◌}
 use Rattle.std.specs.Str.{bytes_eq}
+use Rattle.vocabulary.specs.declared.limits.TheConstants.{MOST_STATEMENTS}
 use Rattle.sim_syntax.specs.declared.expression.Expr.{Expr, out-Expr}
 use Rattle.sim_syntax.specs.declared.statement.Stmt.{Stmt}
 use Rattle.sim_syntax.specs.declared.statement.Stmt.TheVariants as stmt
@@ -54,7 +55,7 @@ unfoldable pub statement_of : List SetDeclaration → List Name → Stmt → Opt
 statement_of sets functions (stmt.Assign line targets e) = assignment_to sets functions targets e
 statement_of sets functions other = None
 
--- a statement more
+-- another statement
 unfoldable pub with_statement : List SetDeclaration → List Name → List Statement → Stmt → Option (List Statement)
 with_statement sets functions so_far statement = do
   one ← statement_of sets functions statement
@@ -63,7 +64,7 @@ with_statement sets functions so_far statement = do
 abbrev pub statements_of : List SetDeclaration → List Name → List Stmt → Option (List Statement)
 statements_of sets functions body = try_fold (with_statement sets functions) [] body
 
--- the statements of the main procedure; functions and main have at most 4,096 statements together
+-- the statements of the main procedure; functions and main have at most MOST_STATEMENTS statements together
 unfoldable pub main_of : Shape → Known → List Stmt → Option (List Statement)
 main_of shape known body =
-    if nat_le (known.statements + length body) 4096 then statements_of shape.sets known.function_names body else None
+    if nat_le (known.statements + length body) MOST_STATEMENTS then statements_of shape.sets known.function_names body else None

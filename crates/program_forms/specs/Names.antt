@@ -1,8 +1,10 @@
 -- Names and numbers, by the bytes of their tokens.
-use Rattle.std.specs.Prelude.{ℕ, ◌==◌, Bool, false, ◌&&◌, ◌||◌, not, nat_le, nat_lt, List, [], ◌∷◌, ◌++◌, length, position, Option, Some, None, if◌then◌else◌, codes, slice_index}
-use Rattle.std.specs.List.{list_all, list_any}
+use Rattle.std.specs.Prelude.{ℕ, ◌==◌, Bool, false, ◌&&◌, ◌||◌, not, nat_le, nat_lt, List, [], ◌∷◌, ◌++◌, length, position, Option, Some, None, if◌then◌else◌, codes, decimal}
+use Rattle.std.specs.List.{list_all, list_any, range_with_len}
 use Rattle.std.specs.Result.{result_ok}
 use Rattle.std.specs.Str.{bytes_eq}
+use Rattle.vocabulary.specs.declared.limits.TheConstants.{MOST_ENDPOINTS, MOST_FIELDS, MOST_NAME_BYTES, MOST_PROGRAM_BYTES}
+use Rattle.vocabulary.specs.declared.marks.TheConstants.{POINT}
 use Rattle.ring_words.specs.Cell.{cell}
 use Rattle.sim_syntax.specs.declared.declaration.Field.{Field}
 use Rattle.sim_syntax.specs.declared.declaration.Local.{Local}
@@ -20,17 +22,18 @@ is_among names name = list_any (bytes_eq name) names
 abbrev pub are_all : Name → List Name → Bool
 are_all name names = list_all (bytes_eq name) names
 
--- the place of a name among these, from 0
+-- the index of a name among these
 abbrev pub place_of : Name → List Name → Option ℕ
 place_of name names = position (bytes_eq name) names
 
--- names and one more that differs from them
+-- names and another that differs from them
 unfoldable pub with_name : List Name → Name → Option (List Name)
 with_name names name = if is_among names name then None else Some (names ++ name ∷ [])
 
--- the number that digits state, where it has no point and is below 2^63; a text has at most 1,048,576 bytes, and no token is longer
+-- the number that digits state, where it has no point and is below 2^63; a text has at most MOST_PROGRAM_BYTES bytes,
+-- and no token is longer
 abbrev pub number_of : List ℕ → Option ℕ
-number_of digits = if nat_lt 1048576 (length digits) || list_any (λ b. b == 46) digits then None else result_ok (cell 0 digits)
+number_of digits = if nat_lt MOST_PROGRAM_BYTES (length digits) || list_any (λ b. b == POINT) digits then None else result_ok (cell 0 digits)
 
 -- a number of scale 0
 abbrev pub is_whole : Local → Bool
@@ -38,17 +41,24 @@ is_whole (local.Int line scale) = bytes_eq scale (codes "0")
 is_whole (local.Vector line side scale) = false
 is_whole (local.Matrix line rows columns scale) = false
 
--- the names of a table's own columns: `key`, and a `p` with a digit below 8
+-- the name of the column of the endpoints at a position: `p` and the position in decimal
+abbrev pub endpoint_column : ℕ → Name
+endpoint_column position = codes "p" ++ decimal position
+
+-- `key`, and the names of the columns of the endpoints at this many positions
+abbrev pub is_reserved_below : ℕ → Name → Bool
+is_reserved_below positions name =
+    bytes_eq name (codes "key") || list_any (λ position. bytes_eq name (endpoint_column position)) (range_with_len 0 positions)
+
+-- the names of a table's own columns
 abbrev pub is_reserved : Name → Bool
-is_reserved name =
-    bytes_eq name (codes "key")
-    || ((length name == 2) && (slice_index name 0 == 112) && nat_le 48 (slice_index name 1) && nat_le (slice_index name 1) 55)
+is_reserved name = is_reserved_below MOST_ENDPOINTS name
 
--- a name has at most 64 bytes
+-- a name has at most MOST_NAME_BYTES bytes
 abbrev pub is_short : Name → Bool
-is_short name = nat_le (length name) 64
+is_short name = nat_le (length name) MOST_NAME_BYTES
 
--- the names of fields, and that of one more: a whole number with a name of its own
+-- the names of fields, and that of another: a whole number with a name of its own
 unfoldable pub with_field : List Name → Field → Option (List Name)
 with_field names field =
     if is_whole field.local && not (is_reserved field.name) && is_short field.name then with_name names field.name else None
@@ -56,8 +66,8 @@ with_field names field =
 abbrev pub field_names : List Field → Option (List Name)
 field_names fields = try_fold with_field [] fields
 
--- the names of the fields of an element type, at most 32
+-- the names of the fields of an element type, at most MOST_FIELDS
 unfoldable pub fields_of : List Field → Option (List Name)
 fields_of fields = do
   names ← field_names fields
-  if nat_le (length names) 32 then Some names else None
+  if nat_le (length names) MOST_FIELDS then Some names else None

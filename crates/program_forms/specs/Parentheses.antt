@@ -19,15 +19,15 @@ is_open_paren other = false
 abbrev pub has_open_paren : List Token → Bool
 has_open_paren tokens = list_any (λ token. is_open_paren token.kind) tokens
 
--- whether one stands behind the place of a token, if there is one
-abbrev pub has_open_paren_behind : List Token → Option ℕ → Bool
-has_open_paren_behind tokens None = false
-has_open_paren_behind tokens (Some place) = has_open_paren (drop place tokens)
+-- whether one stands from a token's index on, if there is one
+abbrev pub has_open_paren_from : List Token → Option ℕ → Bool
+has_open_paren_from tokens None = false
+has_open_paren_from tokens (Some place) = has_open_paren (drop place tokens)
 
--- the place of the first `proc`, with which the main procedure begins
+-- the index of the first `proc`, with which the main procedure begins
 abbrev pub first_proc : List Token → Option ℕ
 first_proc tokens = position (λ token. is_proc token.kind) tokens
 
--- whether an open parenthesis stands behind it
+-- whether an open parenthesis stands after it
 abbrev pub main_has_parentheses : List Token → Bool
-main_has_parentheses tokens = has_open_paren_behind tokens (first_proc tokens)
+main_has_parentheses tokens = has_open_paren_from tokens (first_proc tokens)

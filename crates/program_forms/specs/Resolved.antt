@@ -1,4 +1,4 @@
--- The program that a tree of one of the two forms states, with numbers in place of names.
+-- The program that a tree of one of the two forms states, with numbers instead of names.
 use Rattle.std.specs.Prelude.{Option, Some}
 use Rattle.sim_syntax.specs.declared.program.Program as tree
 use Rattle.global_algebra.specs.declared.program.Program.{Program}

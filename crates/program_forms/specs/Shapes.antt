@@ -1,6 +1,7 @@
 -- The element types and sets that declarations state.
 use Rattle.std.specs.Prelude.{ℕ, Bool, ◌&&◌, ◌==◌, not, nat_le, nat_lt, List, [], ◌∷◌, ◌++◌, length, position, slice_index_or, Option, Some, None, if◌then◌else◌}
 use Rattle.std.specs.Str.{bytes_eq}
+use Rattle.vocabulary.specs.declared.limits.TheConstants.{MOST_ENDPOINTS}
 use Rattle.sim_syntax.specs.declared.declaration.Decl.{Decl}
 use Rattle.sim_syntax.specs.declared.declaration.Decl.TheVariants as decl
 use Rattle.sim_syntax.specs.declared.declaration.Field.{Field}
@@ -11,7 +12,7 @@ use Rattle.program_forms.specs.declared.shapes.Shape.{Shape}
 use Rattle.program_forms.specs.Tries.{try_fold, ◌>>=◌}
 use Rattle.program_forms.specs.Names.{Name, are_all, is_short, fields_of}
 
--- an element type more, of at most two
+-- another element type, of at most two
 unfoldable pub with_type : Shape → Name → List Field → Option Shape
 with_type shape name fields = do
   names ← fields_of fields
@@ -32,15 +33,15 @@ fields_of_type types name = do
 abbrev pub vertex_set : Name → List Name → SetDeclaration
 vertex_set name fields = record { name = name; fields = fields; over = None; arity = 0 }
 
--- a set with so many endpoints, which lie in the first set
+-- a set with this many endpoints, which lie in the first set
 abbrev pub edge_set : Name → List Name → ℕ → SetDeclaration
 edge_set name fields arity = record { name = name; fields = fields; over = Some 0; arity = arity }
 
--- 2 to 8 endpoints
+-- 2 to MOST_ENDPOINTS endpoints
 abbrev pub is_arity : ℕ → Bool
-is_arity n = nat_le 2 n && nat_le n 8
+is_arity n = nat_le 2 n && nat_le n MOST_ENDPOINTS
 
--- the names of 2 to 8 endpoints are all that of the vertex set
+-- the names of 2 to MOST_ENDPOINTS endpoints are all that of the vertex set
 abbrev pub are_ends : SetDeclaration → List Name → Bool
 are_ends vertices ends = is_arity (length ends) && are_all vertices.name ends
 
@@ -51,7 +52,7 @@ next_set (vertices ∷ []) name fields ends =
     if are_ends vertices ends then Some (edge_set name fields (length ends)) else None
 next_set (vertices ∷ edges ∷ others) name fields ends = None
 
--- a set more, of a type that is declared before
+-- another set, of a type that is declared before
 unfoldable pub with_set : Shape → Name → Name → List Name → Option Shape
 with_set shape name element ends = if not (is_short name) then None else do
   fields ← fields_of_type shape.types element

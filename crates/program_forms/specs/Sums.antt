@@ -1,4 +1,4 @@
--- The sums that the main procedure assigns, with numbers in place of names.
+-- The sums that the main procedure assigns, with numbers instead of names.
 use Rattle.std.specs.Prelude.{ℕ, Bool, true, false, ◌||◌, not, nat_le, List, [], ◌∷◌, ◌++◌, length, Option, Some, None, if◌then◌else◌}
 use Rattle.std.specs.Str.{bytes_eq}
 use Rattle.sim_syntax.specs.declared.expression.Expr.{Expr, out-Expr}
@@ -22,14 +22,14 @@ column_of set name [] (Some field) [] = do
   if bytes_eq set.name name then Some column else None
 column_of set name args field field_args = None
 
--- a number more in front of the fields, joined by `*`
+-- another number before the fields, joined by `*`
 unfoldable pub with_number : Term → Bool → List ℕ → Option Term
 with_number so_far entrywise digits = do
   number ← number_of digits
   if entrywise || nat_le 1 (length so_far.fields) then None
       else Some (record { minus = so_far.minus; numbers = so_far.numbers ++ number ∷ []; fields = so_far.fields })
 
--- a field more: the first is joined by `*`, the others by `.*`
+-- another field: the first is joined by `*`, the others by `.*`
 abbrev pub is_joined : Term → Bool → Bool
 is_joined so_far true = nat_le 1 (length so_far.fields)
 is_joined so_far false = not (nat_le 1 (length so_far.fields))
@@ -38,7 +38,7 @@ unfoldable pub with_column : Term → Bool → ℕ → Option Term
 with_column so_far entrywise column =
     if is_joined so_far entrywise then Some (record { minus = so_far.minus; numbers = so_far.numbers; fields = so_far.fields ++ column ∷ [] }) else None
 
--- a factor more: a number or a field
+-- another factor: a number or a field
 unfoldable pub with_node : SetDeclaration → Term → Bool → Node → Option Term
 with_node set so_far entrywise (Expr-F.Number line digits) = with_number so_far entrywise digits
 with_node set so_far entrywise (Expr-F.Ref line name args field field_args rank) =
@@ -64,7 +64,7 @@ unfoldable pub term_of : SetDeclaration → Bool → Node → Option Term
 term_of set minus (Expr-F.Product line factors) = product_of set minus factors >>= whole_term
 term_of set minus other = with_node set (no_factors minus) false other >>= whole_term
 
--- a term more of a sum
+-- another term of a sum
 unfoldable pub with_term : SetDeclaration → List Term → SumTerm → Option (List Term)
 with_term set so_far signed = do
   one ← term_of set (out-SumTerm signed).minus (out-Expr (out-SumTerm signed).value)

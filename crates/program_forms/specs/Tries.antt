@@ -13,7 +13,7 @@ unfoldable pub try_fold : {A B : Type 0} → (A → B → Option A) → A → Li
 try_fold with_one known [] = Some known
 try_fold with_one known (x ∷ xs) = with_one known x >>= λ next. try_fold with_one next xs
 
--- values so far, and one more if it is there
+-- values so far, and another if it is there
 abbrev pub with_value : {A : Type 0} → List A → Option A → Option (List A)
 with_value values value = value >>= λ x. Some (values ++ x ∷ [])
 

@@ -1,17 +1,18 @@
 //! The bodies of functions.
 
 ghost use Rattle.std.specs.Prelude.{◌≡◌, ◌∷◌, ◌++◌, ◌<◌, ◌≤◌, ◌+◌, [], IfOk, length, true};
+ghost use Rattle.vocabulary.specs.declared.limits.TheConstants.{MOST_STATEMENTS};
 ghost use Rattle.program_forms.specs.Functions as spec;
 ghost use Rattle.program_forms.specs.Limits.{IsBodyOver, IsSmallScope};
 ghost use Rattle.program_forms.specs.Tries.{Gives};
 
 use crate::expressions::{Scope, expression};
 use crate::fault::ResolveFault;
-use crate::names::{copy, is_among, is_same, number_of, pushed};
+use crate::names::{is_among, is_same, number_of, pushed};
 use global_algebra::Step;
-use ring_words::{L, Text};
 use sim_syntax::{Expr, Index, Name, Place, Right, Stmt};
 use std::alloc::Global;
+use vocabulary::{L, Text};
 
 /// The part of a body that is resolved.
 #[derive(Drop)]
@@ -32,7 +33,7 @@ fn is_taken(names: &[Name], scope: &Scope, variables: &[Text], name: &Name) -> b
         || is_among(variables, name)
 }
 
-/// A variable more.
+/// Another variable.
 #[tactic(auto, unfolding(crate::specs::Functions::with_variable), using(crate::proofs::StepsMore::body_more))]
 fn with_variable(
     alloc: Global,
@@ -43,7 +44,7 @@ fn with_variable(
     right: &Right,
 ) -> Result<Body, ResolveFault>
     requires scope { IsSmallScope scope.now }
-    requires few { length body.variables < 4096 }
+    requires few { length body.variables < MOST_STATEMENTS }
     requires body { IsBodyOver scope.now body }
     ensures value { Gives result (spec.with_variable names.now scope.now body variables.now right.now) }
     ensures fits { IfOk result (IsBodyOver scope.now) }
@@ -55,7 +56,7 @@ fn with_variable(
             if is_taken(names, scope, body.variables.items(), name) {
                 return Err(ResolveFault::OtherForm);
             }
-            let name = copy(alloc, name)?;
+            let name = name.copy(alloc)?;
             let variables = pushed(body.variables, name)?;
             let steps = pushed(body.steps, Step::Var(value))?;
             Ok(Body { variables, steps })
@@ -83,7 +84,7 @@ fn number_of_place(scope: &Scope, index: &Option<Index>) -> Result<u32, ResolveF
     }
 }
 
-/// A contribution more to an endpoint.
+/// Another contribution to an endpoint.
 #[tactic(auto, unfolding(crate::specs::Functions::with_write), using(crate::proofs::StepsMore::body_more))]
 fn with_write(
     alloc: Global,
@@ -94,7 +95,7 @@ fn with_write(
     expr: &Expr,
 ) -> Result<Body, ResolveFault>
     requires scope { IsSmallScope scope.now }
-    requires few { length body.variables < 4096 }
+    requires few { length body.variables < MOST_STATEMENTS }
     requires body { IsBodyOver scope.now body }
     ensures value { Gives result (spec.with_write scope.now body target.now places.now expr.now) }
     ensures fits { IfOk result (IsBodyOver scope.now) }
@@ -121,7 +122,7 @@ fn with_write(
     }
 }
 
-/// A statement more.
+/// Another statement.
 #[tactic(auto, unfolding(crate::specs::Functions::with_step))]
 fn with_step(
     alloc: Global,
@@ -131,7 +132,7 @@ fn with_step(
     statement: &Stmt,
 ) -> Result<Body, ResolveFault>
     requires scope { IsSmallScope scope.now }
-    requires few { length body.variables < 4096 }
+    requires few { length body.variables < MOST_STATEMENTS }
     requires body { IsBodyOver scope.now body }
     ensures value { Gives result (spec.with_step names.now scope.now body statement.now) }
     ensures fits { IfOk result (IsBodyOver scope.now) }
@@ -153,7 +154,7 @@ fn with_step(
     }
 }
 
-/// A body of at most 4,096 statements, where these names are declared before.
+/// A body of at most `MOST_STATEMENTS` statements, where these names are declared before.
 #[tactic(auto, using(crate::proofs::Folds::one_more, crate::proofs::Folds::one_refused, crate::proofs::Folds::none_left, crate::proofs::StepsMore::body_none))]
 pub fn body_of(
     alloc: Global,
@@ -162,13 +163,13 @@ pub fn body_of(
     statements: &[Stmt],
 ) -> Result<Body, ResolveFault>
     requires scope { IsSmallScope scope.now }
-    requires few { length statements.now ≤ 4096 }
+    requires few { length statements.now ≤ MOST_STATEMENTS }
     ensures value { Gives result (spec.body_of names.now scope.now statements.now) }
     ensures fits { IfOk result (IsBodyOver scope.now) }
 {
     let mut body = Body {
-        variables: L::of(Vec::new(alloc)),
-        steps: L::of(Vec::new(alloc)),
+        variables: L::empty(alloc),
+        steps: L::empty(alloc),
     };
     for statement in statements {
         body = with_step(alloc, names, scope, body, statement)?;

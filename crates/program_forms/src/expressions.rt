@@ -1,7 +1,8 @@
-//! The expressions of functions, with numbers in place of names.
+//! The expressions of functions, with numbers instead of names.
 
 ghost use Rattle.std.specs.Prelude.{ℕ, ◌≡◌, ◌<◌, ◌≤◌, IfOk, length, true};
 ghost use Rattle.global_algebra.specs.Fits.{are_in_scope, are_terms_in_scope, is_in_scope};
+ghost use Rattle.vocabulary.specs.declared.limits.TheConstants.{MOST_STATEMENTS};
 ghost use Rattle.program_forms.specs.Expressions as spec;
 ghost use Rattle.program_forms.specs.Limits.{IsSmallScope, bounds_of};
 ghost use Rattle.program_forms.specs.Tries.{Gives};
@@ -9,10 +10,10 @@ ghost use Rattle.program_forms.specs.Tries.{Gives};
 use crate::fault::ResolveFault;
 use crate::names::{is_same, number_of, place_of};
 use global_algebra::{Expr, SumTerm};
-use ring_words::{L, Text};
 use sim_syntax::{Name, ProductFactor};
 use sqlite_items::Items;
 use std::alloc::Global;
+use vocabulary::{L, Text};
 
 /// What a function may name beside its variables.
 #[derive(Drop)]
@@ -91,7 +92,7 @@ fn end_field(
 /// A variable.
 #[tactic(auto, unfolding(crate::specs::Expressions::variable))]
 fn variable(scope: &Scope, variables: &[Text], name: &Name) -> Result<Expr, ResolveFault>
-    requires { length variables.now ≤ 4096 }
+    requires { length variables.now ≤ MOST_STATEMENTS }
     ensures value { Gives result (spec.variable variables.now name.now) }
     ensures fits { IfOk result (λ e. is_in_scope (bounds_of scope.now) (length variables.now) e ≡ true) }
 {
@@ -109,7 +110,7 @@ pub fn expression(
     variables: &[Text],
 ) -> Result<Expr, ResolveFault>
     requires scope { IsSmallScope scope.now }
-    requires few { length variables.now ≤ 4096 }
+    requires few { length variables.now ≤ MOST_STATEMENTS }
     ensures value { Gives result (spec.expression scope.now variables.now expr.now) }
     ensures fits { IfOk result (λ e. is_in_scope (bounds_of scope.now) (length variables.now) e ≡ true) }
 {
@@ -153,7 +154,7 @@ fn reference(
     field_args: &[sim_syntax::Expr],
 ) -> Result<Expr, ResolveFault>
     requires scope { IsSmallScope scope.now }
-    requires few { length variables.now ≤ 4096 }
+    requires few { length variables.now ≤ MOST_STATEMENTS }
     ensures value { Gives result (spec.resolved_reference scope.now variables.now name.now args.now field.now field_args.now) }
     ensures fits { IfOk result (λ e. is_in_scope (bounds_of scope.now) (length variables.now) e ≡ true) }
 {
@@ -178,7 +179,7 @@ fn sum_terms(
     variables: &[Text],
 ) -> Result<Items<SumTerm>, ResolveFault>
     requires scope { IsSmallScope scope.now }
-    requires few { length variables.now ≤ 4096 }
+    requires few { length variables.now ≤ MOST_STATEMENTS }
     ensures value { Gives result (spec.terms scope.now variables.now terms.now) }
     ensures fits { IfOk result (λ ts. are_terms_in_scope (bounds_of scope.now) (length variables.now) ts ≡ true) }
 {
@@ -203,7 +204,7 @@ fn product_factors(
     variables: &[Text],
 ) -> Result<Items<Expr>, ResolveFault>
     requires scope { IsSmallScope scope.now }
-    requires few { length variables.now ≤ 4096 }
+    requires few { length variables.now ≤ MOST_STATEMENTS }
     ensures value { Gives result (spec.factors scope.now variables.now factors.now) }
     ensures fits { IfOk result (λ fs. are_in_scope (bounds_of scope.now) (length variables.now) fs ≡ true) }
 {

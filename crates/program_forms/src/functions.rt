@@ -10,18 +10,13 @@ ghost use Rattle.program_forms.specs.Tries.{Gives};
 use crate::bodies::body_of;
 use crate::expressions::Scope;
 use crate::fault::ResolveFault;
-use crate::names::{copy, copy_all, find_number, is_among, is_same, is_whole, pushed, with_name};
+use crate::names::{copy_all, find_number, is_among, is_same, is_whole, pushed, with_name};
 use crate::shapes::Shape;
 use global_algebra::Function;
-use ring_words::{L, Text};
 use sim_syntax::{Decl, Name, Num, Param, ParamKind, ResultDecl, Stmt};
 use std::alloc::Global;
-
-/// The most statements that functions and the main procedure have together.
-pub const MOST_STATEMENTS: usize = 4096;
-
-/// The most tokens that a program's text has, so that there are fewer functions.
-const MOST_TOKENS: usize = 65_536;
+use vocabulary::limits::{MOST_STATEMENTS, MOST_TOKENS};
+use vocabulary::{L, Text};
 
 /// What declarations make known.
 #[derive(Drop)]
@@ -55,7 +50,7 @@ fn is_count(count: u32, digits: &Num) -> bool
     }
 }
 
-/// Whether a parameter is so many endpoints of this type.
+/// Whether a parameter is this many endpoints of this type.
 fn are_endpoints(element: &Name, count: u32, kind: &ParamKind) -> bool
     ensures { result ≡ spec.are_endpoints element.now count kind.now }
 {
@@ -122,9 +117,9 @@ fn scope_between(
     ensures value { Gives result (Some (spec.scope_between shape.now s.now p.now r.now)) }
 {
     let sets = shape.sets.items();
-    let element = copy(alloc, s)?;
-    let ends = copy(alloc, p)?;
-    let vector = copy(alloc, r)?;
+    let element = s.copy(alloc)?;
+    let ends = p.copy(alloc)?;
+    let vector = r.copy(alloc)?;
     let own = copy_all(alloc, sets[1].fields.items())?;
     let end_fields = copy_all(alloc, sets[0].fields.items())?;
     Ok(Scope {
@@ -165,7 +160,7 @@ fn scope_of_function(
     }
 }
 
-/// A function more.
+/// Another function.
 #[tactic(auto, unfolding(crate::specs::Functions::with_function))]
 fn with_function(
     alloc: Global,
@@ -180,13 +175,13 @@ fn with_function(
     ensures value { Gives result (spec.with_function shape.now known name.now header.entry.0.now header.entry.1.now body.now) }
     ensures over { IfOk result (IsKnownOver shape.now.sets) }
 {
-    if body.len() > MOST_STATEMENTS - known.statements {
+    if body.len() > MOST_STATEMENTS as usize - known.statements {
         return Err(ResolveFault::OtherForm);
     }
     let scope = scope_of_function(alloc, shape, known.names.items(), header.0, header.1)?;
     let resolved = body_of(alloc, known.names.items(), &scope, body)?;
     let names = with_name(alloc, known.names, name)?;
-    let name = copy(alloc, name)?;
+    let name = name.copy(alloc)?;
     let function_names = pushed(known.function_names, name)?;
     let function = Function {
         steps: resolved.steps,
@@ -200,7 +195,7 @@ fn with_function(
     })
 }
 
-/// The name of another declaration more.
+/// The name of another declaration.
 #[tactic(auto, unfolding(crate::specs::Functions::with_other))]
 fn with_other(alloc: Global, known: Known, name: &Name) -> Result<Known, ResolveFault>
     ensures value { Gives result (spec.with_other known name.now) }
@@ -215,7 +210,7 @@ fn with_other(alloc: Global, known: Known, name: &Name) -> Result<Known, Resolve
     })
 }
 
-/// A declaration more: its name is new, and known from here on.
+/// Another declaration: its name is new, and known from here on.
 #[tactic(auto, unfolding(crate::specs::Functions::with_declared))]
 fn with_declared(
     alloc: Global,
@@ -252,9 +247,9 @@ fn all_declared(alloc: Global, shape: &Shape, decls: &[Decl]) -> Result<Known, R
     ensures over { IfOk result (IsKnownOver shape.now.sets) }
 {
     let mut known = Known {
-        names: L::of(Vec::new(alloc)),
-        function_names: L::of(Vec::new(alloc)),
-        functions: L::of(Vec::new(alloc)),
+        names: L::empty(alloc),
+        function_names: L::empty(alloc),
+        functions: L::empty(alloc),
         statements: 0,
     };
     for decl in decls {
@@ -269,11 +264,11 @@ pub fn known_of(alloc: Global, shape: &Shape, decls: &[Decl]) -> Result<Known, R
     requires { IsKnownShape shape.now }
     ensures value { Gives result (spec.known_of shape.now decls.now) }
     ensures over { IfOk result (IsKnownOver shape.now.sets) }
-    ensures few { IfOk result (λ known. length known.functions ≤ 65536) }
+    ensures few { IfOk result (λ known. length known.functions ≤ MOST_TOKENS) }
 {
     let known = all_declared(alloc, shape, decls)?;
     let functions = known.functions.items().len();
-    if functions <= MOST_TOKENS && (shape.sets.items().len() <= 1 || functions >= 1) {
+    if functions <= MOST_TOKENS as usize && (shape.sets.items().len() <= 1 || functions >= 1) {
         Ok(known)
     } else {
         Err(ResolveFault::OtherForm)

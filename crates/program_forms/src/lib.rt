@@ -1,13 +1,14 @@
-//! From a program's tree to a program with numbers in place of names. A tree is a program that can run exactly
+//! From a program's tree to a program with numbers instead of names. A tree is a program that can run exactly
 //! where it is of one of two forms:
 //!
-//! - one element type with 1 to 32 fields and one set of it; the main procedure assigns sums to its fields;
-//! - two element types, a vertex set, an edge set whose 2 to 8 endpoints lie in it, and one or more functions, in
-//!   any order in which each name is declared before its use; the main procedure assigns sums to fields of either
-//!   set, and maps functions to the edge set.
+//! - one element type with 1 to `MOST_FIELDS` fields and one set of it; the main procedure assigns sums to its
+//!   fields;
+//! - two element types, a vertex set, an edge set whose 2 to `MOST_ENDPOINTS` endpoints lie in it, and one or more
+//!   functions, in any order in which each name is declared before its use; the main procedure assigns sums to
+//!   fields of either set, and maps functions to the edge set.
 //!
-//! All fields are whole numbers of scale 0. The functions and the main procedure have at most 4,096 statements
-//! together.
+//! All fields are whole numbers of scale 0. The functions and the main procedure have at most `MOST_STATEMENTS`
+//! statements together.
 #![tactic(auto)]
 
 mod bodies;
@@ -20,8 +21,6 @@ mod parentheses;
 mod resolution;
 mod shapes;
 mod sums;
-#[cfg(test)]
-mod tests;
 
 pub use fault::ResolveFault;
 pub use parentheses::main_has_parentheses;

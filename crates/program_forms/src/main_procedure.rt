@@ -1,19 +1,21 @@
 //! The statements of the main procedure.
 
 ghost use Rattle.std.specs.Prelude.{◌≡◌, ◌∷◌, ◌++◌, ◌<◌, ◌≤◌, [], All, IfOk, IfSome, length};
+ghost use Rattle.vocabulary.specs.declared.limits.TheConstants.{MOST_TOKENS};
 ghost use Rattle.program_forms.specs.Limits.{IsFieldPlace, IsKnownOver, IsKnownShape, IsStatementOver};
 ghost use Rattle.program_forms.specs.MainProcedure as spec;
 ghost use Rattle.program_forms.specs.Tries.{Gives, GivesSeen};
 
 use crate::fault::ResolveFault;
-use crate::functions::{Known, MOST_STATEMENTS};
+use crate::functions::Known;
 use crate::names::{is_same, place_of, pushed};
 use crate::shapes::Shape;
 use crate::sums::sum_of;
 use global_algebra::{SetDeclaration, Statement};
-use ring_words::L;
 use sim_syntax::{Expr, Name, Right, Stmt, Target};
 use std::alloc::Global;
+use vocabulary::L;
+use vocabulary::limits::MOST_STATEMENTS;
 
 /// The number of the set with this name, if there is one.
 fn find_set(sets: &[SetDeclaration], name: &Name) -> Option<usize>
@@ -53,7 +55,7 @@ fn map_of(
 ) -> Result<Statement, ResolveFault>
     requires shape { IsKnownShape shape.now }
     requires known { IsKnownOver shape.now.sets known.now }
-    requires few { length known.now.functions ≤ 65536 }
+    requires few { length known.now.functions ≤ MOST_TOKENS }
     requires target { IsFieldPlace shape.now.sets target.set target.column }
     ensures value { Gives result (spec.map_of shape.now.sets known.now.function_names target.set target.column function.now args.now mapped.now) }
     ensures over { IfOk result (IsStatementOver shape.now.sets (length known.now.functions)) }
@@ -83,7 +85,7 @@ fn assigned(
 ) -> Result<Statement, ResolveFault>
     requires shape { IsKnownShape shape.now }
     requires known { IsKnownOver shape.now.sets known.now }
-    requires few { length known.now.functions ≤ 65536 }
+    requires few { length known.now.functions ≤ MOST_TOKENS }
     requires target { IsFieldPlace shape.now.sets target.set target.column }
     ensures value { Gives result (spec.assigned shape.now.sets known.now.function_names target.set target.column right.now) }
     ensures over { IfOk result (IsStatementOver shape.now.sets (length known.now.functions)) }
@@ -137,7 +139,7 @@ fn statement_of(
 ) -> Result<Statement, ResolveFault>
     requires shape { IsKnownShape shape.now }
     requires known { IsKnownOver shape.now.sets known.now }
-    requires few { length known.now.functions ≤ 65536 }
+    requires few { length known.now.functions ≤ MOST_TOKENS }
     ensures value { Gives result (spec.statement_of shape.now.sets known.now.function_names statement.now) }
     ensures over { IfOk result (IsStatementOver shape.now.sets (length known.now.functions)) }
 {
@@ -160,7 +162,7 @@ fn assignment_to(
 ) -> Result<Statement, ResolveFault>
     requires shape { IsKnownShape shape.now }
     requires known { IsKnownOver shape.now.sets known.now }
-    requires few { length known.now.functions ≤ 65536 }
+    requires few { length known.now.functions ≤ MOST_TOKENS }
     ensures value { Gives result (spec.assignment_to shape.now.sets known.now.function_names targets.now right.now) }
     ensures over { IfOk result (IsStatementOver shape.now.sets (length known.now.functions)) }
 {
@@ -173,7 +175,7 @@ fn assignment_to(
     }
 }
 
-/// A statement more.
+/// Another statement.
 #[tactic(auto, unfolding(crate::specs::MainProcedure::with_statement))]
 fn with_statement(
     alloc: Global,
@@ -184,7 +186,7 @@ fn with_statement(
 ) -> Result<L<Statement>, ResolveFault>
     requires shape { IsKnownShape shape.now }
     requires known { IsKnownOver shape.now.sets known.now }
-    requires few { length known.now.functions ≤ 65536 }
+    requires few { length known.now.functions ≤ MOST_TOKENS }
     requires over { All (IsStatementOver shape.now.sets (length known.now.functions)) so_far }
     ensures value { Gives result (spec.with_statement shape.now.sets known.now.function_names so_far statement.now) }
     ensures over { IfOk result (All (IsStatementOver shape.now.sets (length known.now.functions))) }
@@ -204,11 +206,11 @@ fn statements_of(
 ) -> Result<L<Statement>, ResolveFault>
     requires shape { IsKnownShape shape.now }
     requires known { IsKnownOver shape.now.sets known.now }
-    requires few { length known.now.functions ≤ 65536 }
+    requires few { length known.now.functions ≤ MOST_TOKENS }
     ensures value { Gives result (spec.statements_of shape.now.sets known.now.function_names body.now) }
     ensures over { IfOk result (All (IsStatementOver shape.now.sets (length known.now.functions))) }
 {
-    let mut statements = L::of(Vec::new(alloc));
+    let mut statements = L::empty(alloc);
     for statement in body {
         statements = with_statement(alloc, shape, known, statements, statement)?;
     }
@@ -225,11 +227,11 @@ pub fn main_of(
 ) -> Result<L<Statement>, ResolveFault>
     requires shape { IsKnownShape shape.now }
     requires known { IsKnownOver shape.now.sets known.now }
-    requires few { length known.now.functions ≤ 65536 }
+    requires few { length known.now.functions ≤ MOST_TOKENS }
     ensures value { Gives result (spec.main_of shape.now known.now body.now) }
     ensures over { IfOk result (All (IsStatementOver shape.now.sets (length known.now.functions))) }
 {
-    if body.len() <= MOST_STATEMENTS - known.statements {
+    if body.len() <= MOST_STATEMENTS as usize - known.statements {
         statements_of(alloc, shape, known, body)
     } else {
         Err(ResolveFault::OtherForm)

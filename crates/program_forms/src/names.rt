@@ -1,56 +1,45 @@
 //! Names and numbers, by the bytes of their tokens.
 
-ghost use Rattle.std.specs.Prelude.{◌≡◌, ◌∷◌, ◌++◌, ◌<◌, ◌≤◌, ◌^◌, [], All, IfOk, IfSome, Some, length};
+ghost use Rattle.std.specs.Prelude.{◌≡◌, ◌∷◌, ◌++◌, ◌<◌, ◌≤◌, [], All, IfOk, IfSome, Some, length};
 ghost use Rattle.std.specs.Str.{bytes_eq};
 ghost use Rattle.program_forms.specs.Names as spec;
 ghost use Rattle.program_forms.specs.Tries.{Gives};
 
 use crate::fault::ResolveFault;
-use ring_words::{L, Text, read_cell};
+use itoa::Buffer;
+use ring_words::read_cell;
 use sim_syntax::{Field, Local, Name, Num};
 use std::alloc::Global;
-
-/// The most fields that an element type may have.
-const MOST_FIELDS: usize = 32;
-/// The most bytes that a program's text has, so that no token is longer.
-const LONGEST_TEXT: usize = 1_048_576;
-/// The most bytes that a name may have.
-const MOST_BYTES: usize = 64;
-
-/// A text like another.
-pub fn copy(alloc: Global, text: &Text) -> Result<Text, ResolveFault>
-    ensures { Gives result (Some text.now) }
-{
-    let copied = String::from_str(alloc, text.as_str()).map_err(|_| ResolveFault::Memory)?;
-    Ok(Text::of(copied))
-}
+use vocabulary::limits::{MOST_ENDPOINTS, MOST_FIELDS, MOST_NAME_BYTES, MOST_PROGRAM_BYTES};
+use vocabulary::marks::POINT;
+use vocabulary::{L, Text};
 
 /// Texts like others.
 pub fn copy_all(alloc: Global, texts: &[Text]) -> Result<L<Text>, ResolveFault>
     ensures { Gives result (Some texts.now) }
 {
-    let mut copied = Vec::new(alloc);
+    let mut copied = L::empty(alloc);
     for text in texts {
-        let one = copy(alloc, text)?;
-        copied.push(one).map_err(|_| ResolveFault::Memory)?;
+        let one = text.copy(alloc)?;
+        copied.push(one)?;
     }
-    Ok(L::of(copied))
+    Ok(copied)
 }
 
-/// A list with one item more.
+/// A list with another item.
 pub fn pushed<T: Drop>(list: L<T>, item: T) -> Result<L<T>, ResolveFault>
     ensures { Gives result (Some (list ++ item ∷ [])) }
 {
-    let mut items = list.into_vec();
-    items.push(item).map_err(|_| ResolveFault::Memory)?;
-    Ok(L::of(items))
+    let mut list = list;
+    list.push(item)?;
+    Ok(list)
 }
 
 /// Whether two texts are the same.
 pub fn is_same(text: &Text, other: &Text) -> bool
     ensures { result ≡ bytes_eq text.now other.now }
 {
-    text.as_str().as_bytes() == other.as_str().as_bytes()
+    text.has_bytes(other.as_str().as_bytes())
 }
 
 /// Whether a name is among others.
@@ -67,7 +56,7 @@ pub fn are_all(name: &Name, names: &[Name]) -> bool
     names.iter().all(|other| is_same(name, other))
 }
 
-/// The place of a name among others, if it is there.
+/// The index of a name among others, if it is there.
 fn find_name(name: &Name, names: &[Name]) -> Option<usize>
     ensures place { result ≡ spec.place_of name.now names.now }
     ensures within { IfSome result (λ place. place < length names.now) }
@@ -75,7 +64,7 @@ fn find_name(name: &Name, names: &[Name]) -> Option<usize>
     names.iter().position(|other| is_same(name, other))
 }
 
-/// The place of a name among others.
+/// The index of a name among others.
 pub fn place_of(name: &Name, names: &[Name]) -> Result<usize, ResolveFault>
     ensures place { Gives result (spec.place_of name.now names.now) }
     ensures within { IfOk result (λ place. place < length names.now) }
@@ -86,7 +75,7 @@ pub fn place_of(name: &Name, names: &[Name]) -> Result<usize, ResolveFault>
     }
 }
 
-/// Names, and one more that differs from them.
+/// Names, and another that differs from them.
 #[tactic(auto, unfolding(crate::specs::Names::with_name))]
 pub fn with_name(alloc: Global, names: L<Name>, name: &Name) -> Result<L<Name>, ResolveFault>
     ensures { Gives result (spec.with_name names name.now) }
@@ -94,7 +83,7 @@ pub fn with_name(alloc: Global, names: L<Name>, name: &Name) -> Result<L<Name>, 
     if is_among(names.items(), name) {
         return Err(ResolveFault::OtherForm);
     }
-    let name = copy(alloc, name)?;
+    let name = name.copy(alloc)?;
     let names = pushed(names, name)?;
     Ok(names)
 }
@@ -104,7 +93,7 @@ pub fn find_number(digits: &Num) -> Option<u64>
     ensures { result ≡ spec.number_of digits.now }
 {
     let bytes = digits.as_str().as_bytes();
-    if bytes.len() > LONGEST_TEXT || bytes.contains(&b'.') {
+    if bytes.len() > MOST_PROGRAM_BYTES as usize || bytes.contains(&POINT) {
         return None;
     }
     read_cell(0, bytes).ok()
@@ -125,33 +114,47 @@ pub fn is_whole(local: &Local) -> bool
     ensures { result ≡ spec.is_whole local.now }
 {
     match local {
-        Local::Int { scale, .. } => scale.as_str().as_bytes() == b"0".as_slice(),
+        Local::Int { scale, .. } => scale.has_bytes(b"0"),
         _ => false,
     }
 }
 
-/// Whether a name is that of a table's own column: `key`, or `p0` to `p7`.
+/// Whether a name is that of the column of the endpoints at a position: `p` and the position in decimal.
+fn is_endpoint_column(name: &Name, position: u32) -> bool
+    ensures { result ≡ bytes_eq name.now (spec.endpoint_column position) }
+{
+    let mut digits = Buffer::new();
+    match name.as_str().as_bytes() {
+        [b'p', rest @ ..] => rest == digits.format(position).as_bytes(),
+        _ => false,
+    }
+}
+
+/// Whether a name is that of a table's own column: `key`, or that of the endpoints at a position.
 fn is_reserved(name: &Name) -> bool
     ensures { result ≡ spec.is_reserved name.now }
 {
-    let name = name.as_str().as_bytes();
-    name == b"key".as_slice()
-        || (name.len() == 2 && name[0] == b'p' && b'0' <= name[1] && name[1] <= b'7')
+    let mut reserved = name.has_bytes(b"key");
+    for position in 0..MOST_ENDPOINTS {
+        let is_column = is_endpoint_column(name, position);
+        reserved = reserved || is_column;
+    }
+    reserved
 }
 
-/// Whether a name has at most 64 bytes.
+/// Whether a name has at most `MOST_NAME_BYTES` bytes.
 pub fn is_short(name: &Name) -> bool
     ensures { result ≡ spec.is_short name.now }
 {
-    name.as_str().len() <= MOST_BYTES
+    name.as_str().len() <= MOST_NAME_BYTES as usize
 }
 
-/// The names of fields, and that of one more.
+/// The names of fields, and that of another.
 #[tactic(auto, unfolding(crate::specs::Names::with_field, crate::specs::Names::with_name))]
 fn with_field(alloc: Global, names: L<Name>, field: &Field) -> Result<L<Name>, ResolveFault>
-    requires { All (λ name. length name ≤ 64) names }
+    requires { All (λ name. length name ≤ MOST_NAME_BYTES) names }
     ensures value { Gives result (spec.with_field names field.now) }
-    ensures short { IfOk result (λ more. All (λ name. length name ≤ 64) more) }
+    ensures short { IfOk result (λ more. All (λ name. length name ≤ MOST_NAME_BYTES) more) }
 {
     if !is_whole(&field.local) || is_reserved(&field.name) || !is_short(&field.name) {
         return Err(ResolveFault::OtherForm);
@@ -160,15 +163,15 @@ fn with_field(alloc: Global, names: L<Name>, field: &Field) -> Result<L<Name>, R
     Ok(names)
 }
 
-/// The names of the fields of an element type, at most 32.
+/// The names of the fields of an element type, at most `MOST_FIELDS`.
 #[tactic(auto, unfolding(crate::specs::Names::fields_of))]
 pub fn fields_of(alloc: Global, fields: &[Field]) -> Result<L<Name>, ResolveFault>
     ensures value { Gives result (spec.fields_of fields.now) }
-    ensures few { IfOk result (λ names. length names ≤ 32) }
-    ensures short { IfOk result (λ names. All (λ name. length name ≤ 64) names) }
+    ensures few { IfOk result (λ names. length names ≤ MOST_FIELDS) }
+    ensures short { IfOk result (λ names. All (λ name. length name ≤ MOST_NAME_BYTES) names) }
 {
     let names = all_fields(alloc, fields)?;
-    if names.items().len() > MOST_FIELDS {
+    if names.items().len() > MOST_FIELDS as usize {
         return Err(ResolveFault::OtherForm);
     }
     Ok(names)
@@ -178,9 +181,9 @@ pub fn fields_of(alloc: Global, fields: &[Field]) -> Result<L<Name>, ResolveFaul
 #[tactic(auto, using(crate::proofs::Folds::one_more, crate::proofs::Folds::one_refused, crate::proofs::Folds::none_left))]
 fn all_fields(alloc: Global, fields: &[Field]) -> Result<L<Name>, ResolveFault>
     ensures value { Gives result (spec.field_names fields.now) }
-    ensures short { IfOk result (λ names. All (λ name. length name ≤ 64) names) }
+    ensures short { IfOk result (λ names. All (λ name. length name ≤ MOST_NAME_BYTES) names) }
 {
-    let mut names = L::of(Vec::new(alloc));
+    let mut names = L::empty(alloc);
     for field in fields {
         names = with_field(alloc, names, field)?;
     }

@@ -32,7 +32,7 @@ fn has_open_paren(tokens: &[Token]) -> bool
     tokens.iter().any(|token| is_open_paren(token.kind))
 }
 
-/// The place of the first `proc`, if there is one.
+/// The index of the first `proc`, if there is one.
 fn first_proc(tokens: &[Token]) -> Option<usize>
     ensures place { result ≡ spec.first_proc tokens.now }
     ensures within { IfSome result (λ place. place < length tokens.now) }
@@ -40,7 +40,7 @@ fn first_proc(tokens: &[Token]) -> Option<usize>
     tokens.iter().position(|token| is_proc(token.kind))
 }
 
-/// Whether an open parenthesis stands behind the first `proc`.
+/// Whether an open parenthesis stands after the first `proc`.
 pub fn main_has_parentheses(tokens: &[Token]) -> bool
     ensures { result ≡ spec.main_has_parentheses tokens.now }
 {

@@ -1,16 +1,18 @@
 //! The element types and sets that declarations state.
 
 ghost use Rattle.std.specs.Prelude.{◌≡◌, ◌∷◌, ◌++◌, ◌<◌, ◌≤◌, [], All, IfOk, IfSome, IsTrue, length};
+ghost use Rattle.vocabulary.specs.declared.limits.TheConstants.{MOST_NAME_BYTES};
 ghost use Rattle.program_forms.specs.Limits.{AreSets, AreSmall, IsKnownShape};
 ghost use Rattle.program_forms.specs.Shapes as spec;
 ghost use Rattle.program_forms.specs.Tries.{Gives};
 
 use crate::fault::ResolveFault;
-use crate::names::{are_all, copy, copy_all, fields_of, is_same, is_short, pushed};
+use crate::names::{are_all, copy_all, fields_of, is_same, is_short, pushed};
 use global_algebra::SetDeclaration;
-use ring_words::{L, Text};
 use sim_syntax::{Decl, Field, Name};
 use std::alloc::Global;
+use vocabulary::limits::MOST_ENDPOINTS;
+use vocabulary::{L, Text};
 
 /// An element type.
 #[derive(Drop)]
@@ -31,7 +33,7 @@ pub struct Shape {
     pub elements: L<Text>,
 }
 
-/// An element type more.
+/// Another element type.
 #[tactic(auto, unfolding(crate::specs::Shapes::with_type))]
 fn with_type(
     alloc: Global,
@@ -47,7 +49,7 @@ fn with_type(
     if shape.types.items().len() >= 2 {
         return Err(ResolveFault::OtherForm);
     }
-    let name = copy(alloc, name)?;
+    let name = name.copy(alloc)?;
     let types = pushed(shape.types, ElementType { name, fields })?;
     Ok(Shape {
         types,
@@ -83,18 +85,18 @@ fn fields_of_type(
     }
 }
 
-/// Whether an edge set may have so many endpoints.
+/// Whether an edge set may have this many endpoints.
 fn is_arity(count: usize) -> bool
     ensures value { result ≡ spec.is_arity count }
-    ensures range { IsTrue result → (2 ≤ count) × (count ≤ 8) }
+    ensures range { IsTrue result → (2 ≤ count) × (count ≤ MOST_ENDPOINTS) }
 {
-    2 <= count && count <= 8
+    2 <= count && count <= MOST_ENDPOINTS as usize
 }
 
-/// Whether the names of 2 to 8 endpoints are all that of the vertex set.
+/// Whether the names of 2 to `MOST_ENDPOINTS` endpoints are all that of the vertex set.
 fn are_ends(vertices: &SetDeclaration, ends: &[Name]) -> bool
     ensures value { result ≡ spec.are_ends vertices.now ends.now }
-    ensures range { IsTrue result → (2 ≤ length ends.now) × (length ends.now ≤ 8) }
+    ensures range { IsTrue result → (2 ≤ length ends.now) × (length ends.now ≤ MOST_ENDPOINTS) }
 {
     is_arity(ends.len()) && are_all(&vertices.name, ends)
 }
@@ -108,7 +110,7 @@ fn next_set(
     ends: &[Name],
 ) -> Result<SetDeclaration, ResolveFault>
     requires fields { AreSmall fields }
-    requires name { length name ≤ 64 }
+    requires name { length name ≤ MOST_NAME_BYTES }
     requires sets { AreSets sets.now }
     ensures value { Gives result (spec.next_set sets.now name fields ends.now) }
     ensures kept { IfOk result (λ set. AreSets (sets.now ++ set ∷ [])) }
@@ -130,7 +132,7 @@ fn next_set(
     }
 }
 
-/// A set more.
+/// Another set.
 #[tactic(auto, unfolding(crate::specs::Shapes::with_set))]
 fn with_set(
     alloc: Global,
@@ -147,9 +149,9 @@ fn with_set(
         return Err(ResolveFault::OtherForm);
     }
     let fields = fields_of_type(alloc, shape.types.items(), element)?;
-    let name = copy(alloc, name)?;
+    let name = name.copy(alloc)?;
     let set = next_set(shape.sets.items(), name, fields, ends)?;
-    let element = copy(alloc, element)?;
+    let element = element.copy(alloc)?;
     let sets = pushed(shape.sets, set)?;
     let elements = pushed(shape.elements, element)?;
     Ok(Shape {
@@ -186,9 +188,9 @@ fn declared_shape(alloc: Global, decls: &[Decl]) -> Result<Shape, ResolveFault>
     ensures known { IfOk result IsKnownShape }
 {
     let mut shape = Shape {
-        types: L::of(Vec::new(alloc)),
-        sets: L::of(Vec::new(alloc)),
-        elements: L::of(Vec::new(alloc)),
+        types: L::empty(alloc),
+        sets: L::empty(alloc),
+        elements: L::empty(alloc),
     };
     for decl in decls {
         shape = with_declaration(alloc, shape, decl)?;

@@ -5,15 +5,16 @@ ghost use Rattle.global_algebra.specs.Fits.{AreTermsOver, IsTermOver};
 ghost use Rattle.sim_syntax.specs.declared.expression.Expr.{out-Expr};
 ghost use Rattle.sim_syntax.specs.declared.expression.ProductFactor.{out-ProductFactor};
 ghost use Rattle.sim_syntax.specs.declared.expression.SumTerm.{out-SumTerm};
+ghost use Rattle.vocabulary.specs.declared.limits.TheConstants.{MOST_FIELDS};
 ghost use Rattle.program_forms.specs.Sums as spec;
 ghost use Rattle.program_forms.specs.Tries.{Gives};
 
 use crate::fault::ResolveFault;
 use crate::names::{is_same, number_of, place_of, pushed};
 use global_algebra::{SetDeclaration, Term};
-use ring_words::L;
 use sim_syntax::{Expr, Name, Num, ProductFactor, SumTerm};
 use std::alloc::Global;
+use vocabulary::L;
 
 /// The column of a field of the set, which is named without arguments.
 #[tactic(auto, unfolding(crate::specs::Sums::column_of))]
@@ -24,7 +25,7 @@ fn column_of(
     field: &Option<Name>,
     field_args: &[Expr],
 ) -> Result<u32, ResolveFault>
-    requires { length set.now.fields ≤ 32 }
+    requires { length set.now.fields ≤ MOST_FIELDS }
     ensures value { Gives result (spec.column_of set.now name.now args.now field.now field_args.now) }
     ensures within { IfOk result (λ column. column < length set.now.fields) }
 {
@@ -41,7 +42,7 @@ fn column_of(
     }
 }
 
-/// A number more in front of the fields, joined by `*`.
+/// Another number before the fields, joined by `*`.
 #[tactic(auto, unfolding(crate::specs::Sums::with_number))]
 fn with_number(so_far: Term, entrywise: bool, digits: &Num) -> Result<Term, ResolveFault>
     ensures value { Gives result (spec.with_number so_far entrywise digits.now) }
@@ -59,7 +60,7 @@ fn with_number(so_far: Term, entrywise: bool, digits: &Num) -> Result<Term, Reso
     })
 }
 
-/// Whether a field more is joined rightly: the first by `*`, the others by `.*`.
+/// Whether another field is joined rightly: the first by `*`, the others by `.*`.
 fn is_joined(so_far: &Term, entrywise: bool) -> bool
     ensures { result ≡ spec.is_joined so_far.now entrywise }
 {
@@ -70,7 +71,7 @@ fn is_joined(so_far: &Term, entrywise: bool) -> bool
     }
 }
 
-/// A field more.
+/// Another field.
 #[tactic(auto, unfolding(crate::specs::Sums::with_column))]
 fn with_column(so_far: Term, entrywise: bool, column: u32) -> Result<Term, ResolveFault>
     ensures value { Gives result (spec.with_column so_far entrywise column) }
@@ -87,7 +88,7 @@ fn with_column(so_far: Term, entrywise: bool, column: u32) -> Result<Term, Resol
     })
 }
 
-/// A factor more: a number or a field.
+/// Another factor: a number or a field.
 #[tactic(auto, unfolding(crate::specs::Sums::with_node))]
 fn with_node(
     set: &SetDeclaration,
@@ -95,7 +96,7 @@ fn with_node(
     entrywise: bool,
     value: &Expr,
 ) -> Result<Term, ResolveFault>
-    requires few { length set.now.fields ≤ 32 }
+    requires few { length set.now.fields ≤ MOST_FIELDS }
     requires over { IsTermOver (length set.now.fields) so_far }
     ensures value { Gives result (spec.with_node set.now so_far entrywise (out-Expr value.now)) }
     ensures over { IfOk result (IsTermOver (length set.now.fields)) }
@@ -135,8 +136,8 @@ fn no_factors(alloc: Global, minus: bool) -> Term
 {
     Term {
         minus,
-        numbers: L::of(Vec::new(alloc)),
-        fields: L::of(Vec::new(alloc)),
+        numbers: L::empty(alloc),
+        fields: L::empty(alloc),
     }
 }
 
@@ -148,7 +149,7 @@ fn product_of(
     minus: bool,
     factors: &[ProductFactor],
 ) -> Result<Term, ResolveFault>
-    requires few { length set.now.fields ≤ 32 }
+    requires few { length set.now.fields ≤ MOST_FIELDS }
     ensures value { Gives result (spec.product_of set.now minus factors.now) }
     ensures over { IfOk result (IsTermOver (length set.now.fields)) }
 {
@@ -167,7 +168,7 @@ fn term_of(
     minus: bool,
     value: &Expr,
 ) -> Result<Term, ResolveFault>
-    requires few { length set.now.fields ≤ 32 }
+    requires few { length set.now.fields ≤ MOST_FIELDS }
     ensures value { Gives result (spec.term_of set.now minus (out-Expr value.now)) }
     ensures over { IfOk result (IsTermOver (length set.now.fields)) }
 {
@@ -183,7 +184,7 @@ fn term_of(
     }
 }
 
-/// A term more of a sum.
+/// Another term of a sum.
 #[tactic(auto, unfolding(crate::specs::Sums::with_term))]
 fn with_term(
     alloc: Global,
@@ -191,7 +192,7 @@ fn with_term(
     so_far: L<Term>,
     signed: &SumTerm,
 ) -> Result<L<Term>, ResolveFault>
-    requires few { length set.now.fields ≤ 32 }
+    requires few { length set.now.fields ≤ MOST_FIELDS }
     requires over { AreTermsOver (length set.now.fields) so_far }
     ensures value { Gives result (spec.with_term set.now so_far signed.now) }
     ensures over { IfOk result (AreTermsOver (length set.now.fields)) }
@@ -204,11 +205,11 @@ fn with_term(
 /// The terms of a sum.
 #[tactic(auto, using(crate::proofs::Folds::one_more, crate::proofs::Folds::one_refused, crate::proofs::Folds::none_left))]
 fn terms_of(alloc: Global, set: &SetDeclaration, terms: &[SumTerm]) -> Result<L<Term>, ResolveFault>
-    requires few { length set.now.fields ≤ 32 }
+    requires few { length set.now.fields ≤ MOST_FIELDS }
     ensures value { Gives result (spec.terms_of set.now terms.now) }
     ensures over { IfOk result (AreTermsOver (length set.now.fields)) }
 {
-    let mut so_far = L::of(Vec::new(alloc));
+    let mut so_far = L::empty(alloc);
     for signed in terms {
         so_far = with_term(alloc, set, so_far, signed)?;
     }
@@ -218,7 +219,7 @@ fn terms_of(alloc: Global, set: &SetDeclaration, terms: &[SumTerm]) -> Result<L<
 /// A sum over fields of the set: its terms with their signs, or one term.
 #[tactic(auto, unfolding(crate::specs::Sums::sum_of))]
 pub fn sum_of(alloc: Global, set: &SetDeclaration, value: &Expr) -> Result<L<Term>, ResolveFault>
-    requires few { length set.now.fields ≤ 32 }
+    requires few { length set.now.fields ≤ MOST_FIELDS }
     ensures value { Gives result (spec.sum_of set.now (out-Expr value.now)) }
     ensures over { IfOk result (AreTermsOver (length set.now.fields)) }
 {
@@ -226,7 +227,7 @@ pub fn sum_of(alloc: Global, set: &SetDeclaration, value: &Expr) -> Result<L<Ter
         Expr::Sum { terms, .. } => terms_of(alloc, set, terms.as_slice()),
         _ => {
             let term = term_of(alloc, set, false, value)?;
-            let terms = pushed(L::of(Vec::new(alloc)), term)?;
+            let terms = pushed(L::empty(alloc), term)?;
             Ok(terms)
         }
     }

@@ -1,16 +1,19 @@
 //! The cells of tables: a word's text is written, and the word that a text stands for is read.
 //!
 //! A cell of scale d counts units of 1/10^d. These calls serve whole numbers, of scale 0.
-ghost use Rattle.std.specs.Prelude.{◌≡◌, ◌+◌, ◌-◌, ◌^◌, ◌<◌, ◌≤◌, ◌++◌, not, nat_lt, length, take, vec_len, vec_capacity};
+ghost use Rattle.std.specs.Prelude.{◌≡◌, ◌+◌, ◌-◌, ◌^◌, ◌<◌, ◌≤◌, not, nat_lt, length, take, vec_len, vec_capacity};
 ghost use Rattle.std.specs.Bool.{OnTrue};
 ghost use Rattle.std.specs.List.{prefix_len, suffix_len};
 ghost use Rattle.std.specs.Str.Parse.{digits_value};
 ghost use Rattle.ring_words.specs.Cell as spec;
+ghost use Rattle.vocabulary.specs.Buffer.{Appends};
 
 use crate::arithmetic::neg;
 use crate::digits::{all_zeros, digit_count, leading_digits};
 use itoa::Buffer;
 use thiserror::Error;
+use vocabulary::append;
+use vocabulary::marks::{MINUS, POINT, SPACE};
 
 /// Why a cell's text stands for no word, in the order in which the causes are judged.
 #[derive(Clone, Copy, Debug, PartialEq, Eq, Error)]
@@ -18,7 +21,7 @@ pub enum CellFault {
     /// Nothing is left without the spaces at both ends.
     #[error("empty cell")]
     Empty,
-    /// The byte at this place of the cell can't go on a number, or the number has ended too soon there.
+    /// The byte at this offset of the cell can't go on a number, or the number has ended too soon there.
     #[error("bad byte at {at}")]
     BadByte { at: u32 },
     /// A decimal past the scale isn't 0.
@@ -29,7 +32,7 @@ pub enum CellFault {
     TooLarge,
 }
 
-/// The bytes without the spaces at both ends. A space is byte 32 alone.
+/// The bytes without the spaces at both ends. A space is the byte of `SPACE` alone.
 #[inline]
 pub fn trim_spaces(bytes: &[u8]) -> &[u8]
     ensures { result.now ≡ spec.without_spaces bytes.now }
@@ -37,17 +40,17 @@ pub fn trim_spaces(bytes: &[u8]) -> &[u8]
     without_trailing_spaces(&bytes[leading_spaces(bytes)..])
 }
 
-/// How many spaces stand at the front.
+/// How many spaces there are before any other byte.
 #[inline(always)]
 fn leading_spaces(bytes: &[u8]) -> usize
     ensures value { result ≡ prefix_len spec.is_space bytes.now }
     ensures within { result ≤ length bytes.now }
 {
-    let mut at = 0;
-    while at < bytes.len() && bytes[at] == b' ' {
-        at += 1;
+    let mut offset = 0;
+    while offset < bytes.len() && bytes[offset] == SPACE {
+        offset += 1;
     }
-    at
+    offset
 }
 
 /// The bytes without the spaces at their end.
@@ -56,7 +59,7 @@ fn without_trailing_spaces(bytes: &[u8]) -> &[u8]
     ensures { result.now ≡ take (length bytes.now - suffix_len spec.is_space bytes.now) bytes.now }
 {
     let mut end = bytes.len();
-    while end > 0 && bytes[end - 1] == b' ' {
+    while end > 0 && bytes[end - 1] == SPACE {
         end -= 1;
     }
     &bytes[..end]
@@ -76,13 +79,13 @@ pub fn read_cell(d: u32, bytes: &[u8]) -> Result<u64, CellFault>
     }
     let parts = split_cell(rest);
     if !parts.complete || parts.size != rest.len() {
-        let at = leading_spaces(bytes) + parts.size;
-        return Err(CellFault::BadByte { at: at as u32 });
+        let offset = leading_spaces(bytes) + parts.size;
+        return Err(CellFault::BadByte { at: offset as u32 });
     }
     word_of(parts)
 }
 
-/// The parts that can be read at the front of a text.
+/// The parts that can be read from the start of a text.
 #[derive(Clone, Copy)]
 struct Parts<'a> {
     negative: bool,
@@ -107,11 +110,11 @@ fn split_cell(rest: &[u8]) -> Parts<'_>
     ensures complete { result.complete ≡ (spec.parts rest.now).complete }
     ensures within { result.size ≤ length rest.now }
 {
-    let negative = starts_with(rest, b'-');
+    let negative = starts_with(rest, MINUS);
     let sign = if negative { 1 } else { 0 };
     let run = leading_digits(&rest[sign..]);
     let size = sign + run.size;
-    if run.size == 0 || !starts_with(&rest[size..], b'.') {
+    if run.size == 0 || !starts_with(&rest[size..], POINT) {
         return Parts {
             negative,
             whole: run.value,
@@ -186,34 +189,20 @@ fn is_negative(w: u64) -> bool
     w >= 1 << 63
 }
 
-/// Appends the text of the word `w` at scale `d`. The room for it is there, so this takes no memory.
+/// Appends the text of the word `w` at scale `d`. The buffer has the capacity for it, which stays as it is: this takes
+/// no memory.
 #[inline]
 #[tactic(auto, using(crate::proofs::Texts::texts, crate::proofs::ReadsBack::reads_back))]
 pub fn write_cell(d: u32, w: u64, to: &mut Vec<u8>)
     requires scale { d ≡ 0 }
-    requires room { vec_len to.old + length (spec.text d w) ≤ vec_capacity to.old }
-    ensures written { to.new.items ≡ to.old.items ++ spec.text d w }
-    ensures room_kept { vec_capacity to.old ≤ vec_capacity to.new }
+    requires capacity { vec_len to.old + length (spec.text d w) ≤ vec_capacity to.old }
+    ensures written { Appends to.old to.new (spec.text d w) }
     ensures reads_back { spec.cell d (spec.text d w) ≡ Ok w }
 {
     let mut digits = Buffer::new();
     if !is_negative(w) {
         return append(digits.format(w).as_bytes(), to);
     }
-    append(b"-", to);
+    append(&[MINUS], to);
     append(digits.format(neg(w)).as_bytes(), to);
-}
-
-/// Appends bytes for which there is room.
-#[inline(always)]
-fn append(bytes: &[u8], to: &mut Vec<u8>)
-    requires { vec_len to.old + length bytes.now ≤ vec_capacity to.old }
-    ensures items { to.new.items ≡ to.old.items ++ bytes.now }
-    ensures len { vec_len to.new ≡ vec_len to.old + length bytes.now }
-    ensures room_kept { vec_capacity to.old ≤ vec_capacity to.new }
-{
-    match to.extend_from_slice(bytes) {
-        Ok(()) => {}
-        Err(_) => unreachable!(),
-    }
 }

@@ -1,14 +1,16 @@
 //! Runs of decimal digits: what they count, and how many a number has.
-ghost use Rattle.std.specs.Prelude.{◌≡◌, ◌+◌, ◌*◌, ◌^◌, ◌<◌, ◌≤◌, ◌==◌, length, decimal};
+ghost use Rattle.std.specs.Prelude.{◌≡◌, ◌+◌, ◌*◌, ◌^◌, ◌<◌, ◌≤◌, length, decimal};
 ghost use Rattle.std.specs.Char.{is_ascii_digit};
 ghost use Rattle.std.specs.List.{list_all, prefix_len};
 ghost use Rattle.std.specs.Str.Parse.{digits_value};
 ghost use Rattle.ring_words.specs.Cell as spec;
 
+use vocabulary::marks::ZERO;
+
 /// Larger numbers are cut down to this one, the first that no signed reading has the size of.
 const CUT: u64 = 9_223_372_036_854_775_809;
 
-/// The digits at the front of a text.
+/// The digits with which a text begins.
 #[derive(Clone, Copy)]
 pub struct Run {
     /// The number that they write, cut down to `CUT`.
@@ -17,7 +19,7 @@ pub struct Run {
     pub size: usize,
 }
 
-/// The digits at the front of `bytes`.
+/// The digits with which `bytes` begin.
 #[inline(always)]
 pub fn leading_digits(bytes: &[u8]) -> Run
     ensures value { result.value ≡ spec.cut (digits_value 10 (spec.digits_at bytes.now)) }
@@ -27,13 +29,13 @@ pub fn leading_digits(bytes: &[u8]) -> Run
     let mut value = 0;
     let mut size = 0;
     while size < bytes.len() && bytes[size].is_ascii_digit() {
-        value = with_digit(value, bytes[size] - b'0');
+        value = with_digit(value, bytes[size] - ZERO);
         size += 1;
     }
     Run { value, size }
 }
 
-/// The number that one more digit makes of a number, cut down.
+/// The number that another digit makes of a number, cut down.
 #[inline(always)]
 fn with_digit(value: u64, digit: u8) -> u64
     requires below { digit < 10 }
@@ -49,9 +51,9 @@ fn with_digit(value: u64, digit: u8) -> u64
 
 /// Whether each byte is the digit 0.
 pub fn all_zeros(digits: &[u8]) -> bool
-    ensures { result ≡ list_all (λ b. b == 48) digits.now }
+    ensures { result ≡ list_all spec.is_zero_digit digits.now }
 {
-    digits.iter().all(|b| *b == b'0')
+    digits.iter().all(|b| *b == ZERO)
 }
 
 /// How many digits `n` has in decimal.

@@ -1,98 +1,98 @@
--- How the cells of a row are read as an element: its endpoints, and the words behind them.
-use Rattle.std.proofs.Common.{◌≢◌, set, below_more, eq-eqb, eqb-true, get_or-set_other, get_or-set_same, length-set, ◌≡◌, ◌≤◌, ◌<◌, ◌+◌, ℕ, Bool, true, false, List, [], ◌∷◌, ◌++◌, length, map, take, drop, get_or, Option, Some, None, Ok, Err, refl, sym, ap, ◌∙◌, arith, append_assoc, append-nil}
-use Rattle.std.specs.Prelude.{◌==◌, nat_lt, option_map, is_some, if◌then◌else◌, Result}
-use Rattle.std.specs.Option.{option_and_then}
-use Rattle.std.specs.List.{All, zip}
-use Rattle.std.specs.Result.{result_ok}
-use Rattle.std.proofs.lemmas.Bool.{ltb-true}
-use Rattle.std.proofs.lemmas.List.{get_or-drop, get_or-map, get_or-take, get_or_default, length-drop, length-map, length-take-le, map-append, same_lists, take_more}
+-- How the cells of a row are read as an element: its endpoints, and the words after them.
+use Rattle.std.proofs.Common.{◌≢◌, set, below_more, get_or-set_other, get_or-set_same, length-set, eq-eqb, ◌≡◌, ◌≤◌, ◌<◌, ◌+◌, ℕ, Bool, true, false, List, [], ◌∷◌, ◌++◌, length, map, drop, get_or, Ok, Err, refl, sym, ap, ◌∙◌, arith, length-append, append-nil, append_assoc}
+use Rattle.std.specs.Prelude.{◌==◌, nat_lt, if◌then◌else◌, Result}
+use Rattle.std.specs.List.{All, enumerate_from, range_with_len, zip}
+use Rattle.std.proofs.Common.{inl, inr}
+use Rattle.std.proofs.lemmas.Bool.{le-ltb, lt-ltb, ltb-false, ltb-true, ne_eqb}
+use Rattle.std.proofs.lemmas.List.{get_or-map, get_or_default, get_or_append_left, length-map, same_lists}
+use Rattle.std.proofs.lemmas.List.FromFn.{get_or-enumerate_from, get_or-map-range_with_len, length-enumerate_from, length-map-range_with_len}
 use Rattle.std.proofs.lemmas.Slice.Zip.{get_or-zip, length-zip}
-use Rattle.ring_words.specs.Cell.{cell}
-use Rattle.set_tables.specs.Reading.{Appends, GrowsByRow, GrowsByWords, with_row}
+use Rattle.std.proofs.Math.Seq.{get_or-append_seam}
+use Rattle.vocabulary.specs.Answers.{◌>>=◌, all_ok}
+use Rattle.vocabulary.specs.declared.limits.TheConstants.{MOST_ELEMENTS}
+use Rattle.set_tables.specs.ReadingSteps.{AddsElement, AddsWords, Fails, with_row}
 use Rattle.set_tables.specs.Schema.{headings}
-use Rattle.set_tables.specs.Table.{Element, below, cell_words, element, element_of, end_word, ends_in, words_in}
-use Rattle.set_tables.specs.declared.reading.TableFault.{TableFault}
-use Rattle.set_tables.specs.declared.reading.TableFault.TheVariants.{Bad, Memory}
+use Rattle.set_tables.specs.Table.{Element, element, element_in, element_of, endpoint_of, endpoints_of, word_of, words_of}
+use Rattle.set_tables.specs.declared.faults.TableFault.{TableFault}
+use Rattle.set_tables.specs.declared.faults.TableFault.TheVariants.{Endpoint, TooManyRows, Width}
 use Rattle.set_tables.specs.declared.schema.Column.{Column}
 use Rattle.set_tables.specs.declared.schema.Schema.{Schema}
-use Rattle.set_tables.proofs.AllThere.{all-there, all_some-push, each-value, length-all_some, one-missing, value}
-use Rattle.set_tables.proofs.Headings.{headings_width}
+use Rattle.set_tables.proofs.Bound.{Continues, another-at, bound-ok, each-value, ends-at, fails-at, length-all_ok, ok, starts}
 
 -- ---- endpoints
 
--- so many endpoints of a row were appended
-pub record HasEnds (bound place : ℕ) (cells : List (List ℕ)) (old new : List ℕ) : Type 0 where
+-- what each cell at the start of a row states as an endpoint
+abbrev pub endpoint_answers : ℕ → ℕ → ℕ → List (List ℕ) → List (Result ℕ TableFault)
+endpoint_answers bound arity row cells = map (λ position. endpoint_of bound row position (get_or cells position [])) (range_with_len 0 arity)
+
+pub length-endpoint_answers : (bound arity row : ℕ) (cells : List (List ℕ)) → length (endpoint_answers bound arity row cells) ≡ arity
+length-endpoint_answers bound arity row cells = length-map-range_with_len (λ position. endpoint_of bound row position (get_or cells position [])) 0 arity
+
+pub endpoint_answer_at : (bound arity row : ℕ) (cells : List (List ℕ)) (k : ℕ) (d : Result ℕ TableFault) → k < arity
+    → get_or (endpoint_answers bound arity row cells) k d ≡ endpoint_of bound row k (get_or cells k [])
+endpoint_answer_at bound arity row cells k d l =
+    let zero-on : 0 + k ≡ k = omega arith in
+    get_or-map-range_with_len (λ position. endpoint_of bound row position (get_or cells position [])) 0 arity k k d l zero-on
+
+-- the endpoints at the first positions were appended
+pub record HasEndpoints (bound arity row : ℕ) (cells : List (List ℕ)) (position : ℕ) (old new : List ℕ) : Type 0 where
   pub more : List ℕ
-  pub stated : ends_in bound place cells ≡ Some more
-  pub kept : new ≡ old ++ more
+  pub known : Continues (endpoints_of bound arity row cells) (all_ok (drop position (endpoint_answers bound arity row cells))) more
+  pub appended : new ≡ old ++ more
 
-pub ends-start : (bound : ℕ) (cells : List (List ℕ)) (old : List ℕ) → HasEnds bound 0 cells old old
-unfolding ends_in
-ends-start bound cells old = record { more = []; stated = refl; kept = sym (append-nil old) }
+pub endpoints-start : (bound arity row : ℕ) (cells : List (List ℕ)) (old : List ℕ) → HasEndpoints bound arity row cells 0 old old
+unfolding endpoints_of
+endpoints-start bound arity row cells old = record { more = []; known = starts (all_ok (endpoint_answers bound arity row cells)); appended = sym (append-nil old) }
 
-pub ends-step : (bound place end : ℕ) (cells : List (List ℕ)) (old new new' : List ℕ) → HasEnds bound place cells old new → place < length cells → end_word bound (get_or cells place []) ≡ Some end
-    → new' ≡ new ++ end ∷ [] → HasEnds bound (place + 1) cells old new'
-unfolding ends_in
-ends-step bound place end cells old new new' h l is grows = record {
-  more = h.more ++ end ∷ [];
-  stated =
-      rw (take_more cells place [] l, map-append (end_word bound) (take place cells) (get_or cells place [] ∷ []), is)
-      (all_some-push (map (end_word bound) (take place cells)) h.more end h.stated);
-  kept = grows ∙ rw h.kept (append_assoc old h.more (end ∷ []));
+pub endpoints-step : (bound arity row : ℕ) (cells : List (List ℕ)) (position endpoint : ℕ) (old new new' : List ℕ) → HasEndpoints bound arity row cells position old new → position < arity
+    → endpoint_of bound row position (get_or cells position []) ≡ Ok endpoint → new' ≡ new ++ endpoint ∷ [] → HasEndpoints bound arity row cells (position + 1) old new'
+endpoints-step bound arity row cells position endpoint old new new' h l is grows = record {
+  more = h.more ++ endpoint ∷ [];
+  known =
+      another-at (endpoints_of bound arity row cells) (endpoint_answers bound arity row cells) position endpoint h.more
+      (omega (arith, length-endpoint_answers bound arity row cells)) (endpoint_answer_at bound arity row cells position (Ok endpoint) l ∙ is) h.known;
+  appended = grows ∙ rw h.appended (append_assoc old h.more (endpoint ∷ []));
 }
 
-pub ends-bad : (bound arity place : ℕ) (cells : List (List ℕ)) → arity ≤ length cells → place < arity → end_word bound (get_or cells place []) ≡ None → ends_in bound arity cells ≡ None
-unfolding ends_in
-ends-bad bound arity place cells m l none =
-    let size = length-take-le arity cells m in
-    one-missing (map (end_word bound) (take arity cells)) place (rw (length-map (take arity cells) (end_word bound)) (omega arith))
-    (get_or-map (end_word bound) (take arity cells) place [] None (omega arith) ∙ ap (end_word bound) (get_or-take arity cells place [] l) ∙ none)
+pub endpoints-fail : (bound arity row : ℕ) (cells : List (List ℕ)) (position : ℕ) (fault : TableFault) (old new : List ℕ) → HasEndpoints bound arity row cells position old new → position < arity
+    → endpoint_of bound row position (get_or cells position []) ≡ Err fault → endpoints_of bound arity row cells ≡ Err fault
+endpoints-fail bound arity row cells position fault old new h l is =
+    fails-at (endpoints_of bound arity row cells) (endpoint_answers bound arity row cells) position fault h.more
+    (omega (arith, length-endpoint_answers bound arity row cells)) (endpoint_answer_at bound arity row cells position (Err fault) l ∙ is) h.known
+
+pub endpoints-end : (bound arity row : ℕ) (cells : List (List ℕ)) (position : ℕ) (old new : List ℕ) → HasEndpoints bound arity row cells position old new → arity ≤ position
+    → (more : List ℕ) × (endpoints_of bound arity row cells ≡ Ok more) × (new ≡ old ++ more)
+endpoints-end bound arity row cells position old new h l =
+    (h.more, ends-at (endpoints_of bound arity row cells) (endpoint_answers bound arity row cells) position h.more (omega (arith, length-endpoint_answers bound arity row cells)) h.known, h.appended)
 
 -- an endpoint is below the bound
-word-below : (bound : ℕ) (bytes : List ℕ) (end : ℕ) → end_word bound bytes ≡ Some end → end < bound
-word-below bound bytes end e = by (result_ok (cell 0 bytes)) e
+endpoint-below : (bound row column : ℕ) (bytes : List ℕ) (endpoint : ℕ) → endpoint_of bound row column bytes ≡ Ok endpoint → endpoint < bound
+endpoint-below bound row column bytes endpoint e =
+    let test = λ (word : ℕ). if nat_lt word bound then ok TableFault word else Err (Endpoint row column) in
+    let (word, read, is) = bound-ok (word_of row column 0 bytes) test endpoint e in
+    within (nat_lt word bound) word refl is
   where
-    within : (b : Bool) (word : ℕ) → nat_lt word bound ≡ b → (if b then Some word else None) ≡ Some end → end < bound
-    within true word t e = let same : word ≡ end = cc e in rw (← same) (ltb-true word bound t)
+    within : (b : Bool) (word : ℕ) → nat_lt word bound ≡ b → (if b then ok TableFault word else Err (Endpoint row column)) ≡ Ok endpoint → endpoint < bound
+    within true word t e = let same : word ≡ endpoint = cc e in rw (← same) (ltb-true word bound t)
     within false word t e = cc e
-
-    by : (o : Option ℕ) → option_and_then (below bound) o ≡ Some end → end < bound
-    by None e = cc e
-    by (Some word) e = within (nat_lt word bound) word refl e
 
 -- ---- words
 
--- as many words as columns
-pub length-cell_words : (columns : List Column) (cells : List (List ℕ)) → length cells ≡ length columns → length (cell_words columns cells) ≡ length columns
-length-cell_words columns cells e =
-    length-map (zip columns cells) (λ (p : Column × List ℕ). result_ok (cell p.0.scale p.1)) ∙ length-zip columns cells ∙ omega arith
+-- what each cell after the endpoints states as a word
+abbrev pub word_answers : ℕ → List Column → ℕ → List (List ℕ) → List (Result ℕ TableFault)
+word_answers arity columns row cells = map (λ p. word_of row p.0 p.1.scale (get_or cells p.0 [])) (enumerate_from arity columns)
 
--- the word of a cell by its place
-pub cell-word-at : (columns : List Column) (cells : List (List ℕ)) (k : ℕ) (column : Column) (bytes : List ℕ) → length cells ≡ length columns → k < length columns
-    → column ≡ get_or columns k column → bytes ≡ get_or cells k [] → get_or (cell_words columns cells) k None ≡ result_ok (cell column.scale bytes)
-cell-word-at columns cells k column bytes e l is b =
-    let m : k < length cells = omega arith in
-    let n : k < length (zip columns cells) = omega (arith, length-zip columns cells) in
-    let d : Column × List ℕ = (column, []) in
-    get_or-map (λ (p : Column × List ℕ). result_ok (cell p.0.scale p.1)) (zip columns cells) k d None n
-    ∙ ap (λ (p : Column × List ℕ). result_ok (cell p.0.scale p.1)) (get_or-zip columns cells k d l m)
-    ∙ rw (← is, ← b) refl
+pub length-word_answers : (arity : ℕ) (columns : List Column) (row : ℕ) (cells : List (List ℕ)) → length (word_answers arity columns row cells) ≡ length columns
+length-word_answers arity columns row cells =
+    length-map (enumerate_from arity columns) (λ (p : ℕ × Column). word_of row p.0 p.1.scale (get_or cells p.0 [])) ∙ length-enumerate_from arity columns
 
--- the cells behind a row's endpoints
-pub behind-width : (arity n : ℕ) (cells : List (List ℕ)) → length cells ≡ arity + n → length (drop arity cells) ≡ n
-behind-width arity n cells e = omega (arith, length-drop arity cells)
-
-pub behind-word-at : (arity : ℕ) (columns : List Column) (cells : List (List ℕ)) (k : ℕ) (column : Column) (bytes : List ℕ) → length cells ≡ arity + length columns → k < length columns
-    → column ≡ get_or columns k column → bytes ≡ get_or cells (arity + k) [] → get_or (cell_words columns (drop arity cells)) k None ≡ result_ok (cell column.scale bytes)
-behind-word-at arity columns cells k column bytes e l is b =
-    cell-word-at columns (drop arity cells) k column bytes (behind-width arity (length columns) cells e) l is (b ∙ sym (get_or-drop arity cells k []))
-
--- a cell that states no word
-pub words-bad : (arity : ℕ) (columns : List Column) (cells : List (List ℕ)) (k : ℕ) → length cells ≡ arity + length columns → k < length columns
-    → get_or (cell_words columns (drop arity cells)) k None ≡ None → words_in arity columns cells ≡ None
-unfolding words_in
-words-bad arity columns cells k e l n =
-    one-missing (cell_words columns (drop arity cells)) k (rw (length-cell_words columns (drop arity cells) (behind-width arity (length columns) cells e)) l) n
+pub word_answer_at : (arity : ℕ) (columns : List Column) (row : ℕ) (cells : List (List ℕ)) (k : ℕ) (column : Column) (d : Result ℕ TableFault) → k < length columns → column ≡ get_or columns k column
+    → get_or (word_answers arity columns row cells) k d ≡ word_of row (arity + k) column.scale (get_or cells (arity + k) [])
+word_answer_at arity columns row cells k column d l is =
+    let n : k < length (enumerate_from arity columns) = omega (arith, length-enumerate_from arity columns) in
+    get_or-map (λ (p : ℕ × Column). word_of row p.0 p.1.scale (get_or cells p.0 [])) (enumerate_from arity columns) k (0, column) d n
+    ∙ ap (λ (p : ℕ × Column). word_of row p.0 p.1.scale (get_or cells p.0 [])) (get_or-enumerate_from arity columns k (0, column) l)
+    ∙ rw (← is) refl
 
 -- columns with a row
 pub length-with_row : (old : List (List ℕ)) (words : List ℕ) → length words ≡ length old → length (with_row old words) ≡ length old
@@ -107,136 +107,124 @@ with_row-at old words j d l e =
     get_or-map (λ (p : List ℕ × ℕ). p.0 ++ p.1 ∷ []) (zip old words) j none d n
     ∙ ap (λ (p : List ℕ × ℕ). p.0 ++ p.1 ∷ []) (get_or-zip old words j none l m)
 
--- the first k columns have each grown by its word, and the others are as they were
-pub record HasGrown (old new : List (List ℕ)) (words : List (Option ℕ)) (k : ℕ) : Type 0 where
+-- the first k columns have each grown by a word, and the others are as they were
+pub record HasWords (arity : ℕ) (columns : List Column) (row : ℕ) (cells : List (List ℕ)) (k : ℕ) (old new : List (List ℕ)) : Type 0 where
+  pub words : List ℕ
+  pub known : Continues (words_of arity columns row cells) (all_ok (drop k (word_answers arity columns row cells))) words
+  pub counted : length words ≡ k
   pub as_many : length new ≡ length old
-  pub there : (j : ℕ) → j < k → is_some (get_or words j None) ≡ true
-  pub grown : (j : ℕ) → j < k → get_or new j [] ≡ get_or old j [] ++ value (get_or words j None) ∷ []
+  pub grown : (j : ℕ) → j < k → get_or new j [] ≡ get_or old j [] ++ get_or words j 0 ∷ []
   pub kept : (j : ℕ) → k ≤ j → get_or new j [] ≡ get_or old j []
 
-pub grows-start : (old : List (List ℕ)) (words : List (Option ℕ)) → HasGrown old old words 0
-grows-start old words = record {
+pub words-start : (arity : ℕ) (columns : List Column) (row : ℕ) (cells : List (List ℕ)) (old : List (List ℕ)) → HasWords arity columns row cells 0 old old
+unfolding words_of
+words-start arity columns row cells old = record {
+  words = [];
+  known = starts (all_ok (word_answers arity columns row cells));
+  counted = refl;
   as_many = refl;
-  there = λ j l. absurd (omega arith);
   grown = λ j l. absurd (omega arith);
   kept = λ j l. refl;
 }
 
-pub grows-step : (old new : List (List ℕ)) (words : List (Option ℕ)) (k w : ℕ) (column : List ℕ) → HasGrown old new words k → k < length old → get_or words k None ≡ Some w
-    → column ≡ get_or new k [] ++ w ∷ [] → HasGrown old (set new k column) words (k + 1)
-grows-step old new words k w column h l is grows =
+pub words-step : (arity : ℕ) (columns : List Column) (row : ℕ) (cells : List (List ℕ)) (k w : ℕ) (schema : Column) (old new : List (List ℕ)) (column : List ℕ)
+    → HasWords arity columns row cells k old new → k < length columns → k < length old → schema ≡ get_or columns k schema
+    → word_of row (arity + k) schema.scale (get_or cells (arity + k) []) ≡ Ok w
+    → column ≡ get_or new k [] ++ w ∷ [] → HasWords arity columns row cells (k + 1) old (set new k column)
+words-step arity columns row cells k w schema old new column h l m at is grows =
     let in' : k < length new = omega (arith, h.as_many) in
+    let seam : get_or (h.words ++ w ∷ []) k 0 ≡ w = rw (← h.counted) (get_or-append_seam h.words w [] 0) in
+    let front : (j : ℕ) → j < k → get_or (h.words ++ w ∷ []) j 0 ≡ get_or h.words j 0 = λ j n. get_or_append_left h.words (w ∷ []) 0 j (omega (arith, h.counted)) in
     record {
+      words = h.words ++ w ∷ [];
+      known =
+          another-at (words_of arity columns row cells) (word_answers arity columns row cells) k w h.words
+          (omega (arith, length-word_answers arity columns row cells)) (word_answer_at arity columns row cells k schema (Ok w) l at ∙ is) h.known;
+      counted = length-append h.words (w ∷ []) ∙ ap (λ n. n + 1) h.counted;
       as_many = length-set new k column ∙ h.as_many;
-      there = below_more _ _ h.there (rw is refl);
       grown = below_more _ _
-          (λ j m. let ne : j ≢ k = omega arith in get_or-set_other new k j column [] ne ∙ h.grown j m)
-          (get_or-set_same new k column [] in' ∙ grows ∙ rw (h.kept k (omega arith), is) refl);
-      kept = λ j m. let ne : j ≢ k = omega arith in get_or-set_other new k j column [] ne ∙ h.kept j (omega arith);
+          (λ j n. let ne : j ≢ k = omega arith in get_or-set_other new k j column [] ne ∙ h.grown j n ∙ ap (λ (x : ℕ). get_or old j [] ++ x ∷ []) (sym (front j n)))
+          (get_or-set_same new k column [] in' ∙ grows ∙ rw (h.kept k (omega arith), seam) refl);
+      kept = λ j n. let ne : j ≢ k = omega arith in get_or-set_other new k j column [] ne ∙ h.kept j (omega arith);
     }
 
-pub grows-end : (arity : ℕ) (columns : List Column) (cells : List (List ℕ)) (old new : List (List ℕ)) (k : ℕ) → length cells ≡ arity + length columns → length old ≡ length columns → length columns ≤ k
-    → HasGrown old new (cell_words columns (drop arity cells)) k
-    → (words : List ℕ) × (words_in arity columns cells ≡ Some words) × (new ≡ with_row old words)
-unfolding words_in
-grows-end arity columns cells old new k e f l h =
-    let stated = cell_words columns (drop arity cells) in
-    let size = length-cell_words columns (drop arity cells) (behind-width arity (length columns) cells e) in
-    let words = map value stated in (
-      words,
-      all-there stated (λ j m. h.there j (omega arith)),
-      same_lists new (with_row old words)
-          (h.as_many ∙ sym (length-with_row old words (length-map stated value ∙ size ∙ sym f)))
-          (λ j d m.
+pub words-fail : (arity : ℕ) (columns : List Column) (row : ℕ) (cells : List (List ℕ)) (k : ℕ) (fault : TableFault) (schema : Column) (old new : List (List ℕ))
+    → HasWords arity columns row cells k old new → k < length columns → schema ≡ get_or columns k schema
+    → word_of row (arity + k) schema.scale (get_or cells (arity + k) []) ≡ Err fault → words_of arity columns row cells ≡ Err fault
+words-fail arity columns row cells k fault schema old new h l at is =
+    fails-at (words_of arity columns row cells) (word_answers arity columns row cells) k fault h.words
+    (omega (arith, length-word_answers arity columns row cells)) (word_answer_at arity columns row cells k schema (Err fault) l at ∙ is) h.known
+
+pub words-end : (arity : ℕ) (columns : List Column) (row : ℕ) (cells : List (List ℕ)) (k : ℕ) (old new : List (List ℕ)) → HasWords arity columns row cells k old new
+    → length old ≡ length columns → k ≡ length columns
+    → (words : List ℕ) × (words_of arity columns row cells ≡ Ok words) × (new ≡ with_row old words)
+words-end arity columns row cells k old new h e f =
+    let size : length h.words ≡ length old = h.counted ∙ f ∙ sym e in (
+      h.words,
+      ends-at (words_of arity columns row cells) (word_answers arity columns row cells) k h.words (omega (arith, length-word_answers arity columns row cells)) h.known,
+      same_lists new (with_row old h.words) (h.as_many ∙ sym (length-with_row old h.words size))
+          (λ j d l.
           let in' : j < length old = omega (arith, h.as_many) in
-          let there : j < length stated = omega arith in
-          get_or_default new j d [] m ∙ h.grown j (omega arith)
-          ∙ sym (with_row-at old words j d in' (length-map stated value ∙ size ∙ sym f)
-          ∙ ap (λ (w : ℕ). get_or old j [] ++ w ∷ []) (get_or-map value stated j None 0 there))),
+          let done : j < k = omega (arith, h.as_many) in
+          get_or_default new j d [] l ∙ h.grown j done ∙ sym (with_row-at old h.words j d in' size)),
     )
 
 -- ---- a whole row
 
--- a row of another width, or with an endpoint or a word that isn't stated
-pub row-width-bad : (schema : Schema) (bound : ℕ) (cells : List (List ℕ)) → ((length cells ≡ length (headings schema)) → ⊥) → element_of schema bound cells ≡ None
+pub row-many : (schema : Schema) (bound row : ℕ) (cells : List (List ℕ)) → MOST_ELEMENTS < row → element_of schema bound row cells ≡ Err TooManyRows
 unfolding element_of
-row-width-bad schema bound cells ne = by (length cells == length (headings schema)) refl
+row-many schema bound row cells many = rw (lt-ltb MOST_ELEMENTS row many) refl
+
+pub row-width : (schema : Schema) (bound row : ℕ) (cells : List (List ℕ)) → row ≤ MOST_ELEMENTS → (length cells ≡ length (headings schema) → ⊥) → element_of schema bound row cells ≡ Err (Width row)
+unfolding element_of
+row-width schema bound row cells few other = rw (le-ltb MOST_ELEMENTS row few, ne_eqb (length cells) (length (headings schema)) other) refl
+
+pub row-cells : (schema : Schema) (bound row : ℕ) (cells : List (List ℕ)) → row ≤ MOST_ELEMENTS → length cells ≡ length (headings schema) → element_of schema bound row cells ≡ element_in schema bound row cells
+unfolding element_of
+row-cells schema bound row cells few same = rw (le-ltb MOST_ELEMENTS row few, eq-eqb (length cells) (length (headings schema)) same) refl
+
+pub row-endpoints-fail : (schema : Schema) (bound row : ℕ) (cells : List (List ℕ)) (fault : TableFault)
+    → Fails (endpoints_of bound schema.arity row cells) fault → Fails (element_in schema bound row cells) fault
+unfolding element_in
+row-endpoints-fail schema bound row cells fault (inl memory) = inl memory
+row-endpoints-fail schema bound row cells fault (inr known) = inr (rw known refl)
+
+pub row-words : (schema : Schema) (bound row : ℕ) (cells : List (List ℕ)) (endpoints endpoints' more : List ℕ) (columns columns' : List (List ℕ)) (result : Result (Unit {0}) TableFault)
+    → endpoints_of bound schema.arity row cells ≡ Ok more → endpoints' ≡ endpoints ++ more
+    → AddsWords (words_of schema.arity schema.columns row cells) columns columns' result → AddsElement (element_in schema bound row cells) endpoints endpoints' columns columns' result
+unfolding element_in
+row-words schema bound row cells endpoints endpoints' more columns columns' (Ok u) e grows (words, f, same) = (element more words, rw (e, f) refl, grows, same)
+row-words schema bound row cells endpoints endpoints' more columns columns' (Err fault) e grows (inl memory) = inl memory
+row-words schema bound row cells endpoints endpoints' more columns columns' (Err fault) e grows (inr known) = inr (rw (e, known) refl)
+
+-- a row that states an element: there may be so many rows, it has as many endpoints and words as there have to be, and
+-- each endpoint is below the bound
+pub record IsRow (schema : Schema) (bound row : ℕ) (e : Element) : Type 0 where
+  pub few : row ≤ MOST_ELEMENTS
+  pub many_endpoints : length e.endpoints ≡ schema.arity
+  pub many_words : length e.words ≡ length schema.columns
+  pub below : All (λ endpoint. endpoint < bound) e.endpoints
+
+pub row-is : (schema : Schema) (bound row : ℕ) (cells : List (List ℕ)) (e : Element) → element_of schema bound row cells ≡ Ok e → IsRow schema bound row e
+unfolding element_of element_in endpoints_of words_of
+row-is schema bound row cells e is = by (nat_lt MOST_ELEMENTS row) (length cells == length (headings schema)) refl is
   where
-    by : (b : Bool) → (length cells == length (headings schema)) ≡ b
-        → (if b then option_and_then (λ ends. option_map (element ends) (words_in schema.arity schema.columns cells)) (ends_in bound schema.arity cells) else None) ≡ None
-    by true t = absurd (ne (eqb-true (length cells) (length (headings schema)) t))
-    by false t = refl
+    parts : row ≤ MOST_ELEMENTS → element_in schema bound row cells ≡ Ok e → IsRow schema bound row e
+    parts few is =
+        let words_then = λ (endpoints : List ℕ). words_of schema.arity schema.columns row cells >>= λ words. ok TableFault (element endpoints words) in
+        let (endpoints, first, rest) = bound-ok (endpoints_of bound schema.arity row cells) words_then e is in
+        let (words, second, made) = bound-ok (words_of schema.arity schema.columns row cells) (λ (words : List ℕ). ok TableFault (element endpoints words)) e rest in
+        let same : element endpoints words ≡ e = cc made in
+        rw (← same) (record {
+          few = few;
+          many_endpoints = length-all_ok (endpoint_answers bound schema.arity row cells) endpoints first ∙ length-endpoint_answers bound schema.arity row cells;
+          many_words = length-all_ok (word_answers schema.arity schema.columns row cells) words second ∙ length-word_answers schema.arity schema.columns row cells;
+          below = each-value (λ endpoint. endpoint < bound) (λ position. endpoint_of bound row position (get_or cells position []))
+              (λ position endpoint is. endpoint-below bound row position (get_or cells position []) endpoint is) (range_with_len 0 schema.arity) endpoints first;
+        })
 
-pub row-ends-bad : (schema : Schema) (bound : ℕ) (cells : List (List ℕ)) → ends_in bound schema.arity cells ≡ None → element_of schema bound cells ≡ None
-unfolding element_of
-row-ends-bad schema bound cells none = rw none (by (length cells == length (headings schema)))
-  where
-    by : (b : Bool) → (if b then option_and_then (λ ends. option_map (element ends) (words_in schema.arity schema.columns cells)) None else None) ≡ None
-    by true = refl
-    by false = refl
-
-pub row-words-bad : (schema : Schema) (bound : ℕ) (cells : List (List ℕ)) → words_in schema.arity schema.columns cells ≡ None → element_of schema bound cells ≡ None
-unfolding element_of
-row-words-bad schema bound cells none = rw none (by (length cells == length (headings schema)) (ends_in bound schema.arity cells))
-  where
-    by : (b : Bool) (ends : Option (List ℕ)) → (if b then option_and_then (λ ends. option_map (element ends) None) ends else None) ≡ None
-    by true None = refl
-    by true (Some ends) = refl
-    by false ends = refl
-
-pub row-good : (schema : Schema) (bound : ℕ) (cells : List (List ℕ)) (ends words : List ℕ) → length cells ≡ length (headings schema) → ends_in bound schema.arity cells ≡ Some ends → words_in schema.arity schema.columns cells ≡ Some words
-    → element_of schema bound cells ≡ Some (element ends words)
-unfolding element_of
-row-good schema bound cells ends words e f g = rw (eq-eqb (length cells) (length (headings schema)) e, f, g) refl
-
--- the parts of a good row
-pub record IsRow (schema : Schema) (bound : ℕ) (cells : List (List ℕ)) (e : Element) : Type 0 where
-  pub width : length cells ≡ length (headings schema)
-  pub ends : ends_in bound schema.arity cells ≡ Some e.ends
-  pub words : words_in schema.arity schema.columns cells ≡ Some e.words
-
-pub row-parts : (schema : Schema) (bound : ℕ) (cells : List (List ℕ)) (e : Element) → element_of schema bound cells ≡ Some e → IsRow schema bound cells e
-unfolding element_of
-row-parts schema bound cells e is = by (length cells == length (headings schema)) (ends_in bound schema.arity cells) (words_in schema.arity schema.columns cells) refl refl refl is
-  where
-    by : (b : Bool) (ends words : Option (List ℕ)) → (length cells == length (headings schema)) ≡ b → ends_in bound schema.arity cells ≡ ends → words_in schema.arity schema.columns cells ≡ words
-        → (if b then option_and_then (λ ends. option_map (element ends) words) ends else None) ≡ Some e → IsRow schema bound cells e
-    by true None words t f g is = cc is
-    by true (Some ends) None t f g is = cc is
-    by true (Some ends) (Some words) t f g is =
-        let same : element ends words ≡ e = cc is in
-        record {
-          width = eqb-true (length cells) (length (headings schema)) t;
-          ends = f ∙ ap (λ (x : Element). Some x.ends) same;
-          words = g ∙ ap (λ (x : Element). Some x.words) same;
-        }
-    by false ends words t f g is = cc is
-
--- as many endpoints and words as there have to be, and each endpoint below the bound
-pub row-many-ends : (schema : Schema) (bound : ℕ) (cells : List (List ℕ)) (e : Element) → IsRow schema bound cells e → length e.ends ≡ schema.arity
-unfolding ends_in
-row-many-ends schema bound cells e row =
-    length-all_some (map (end_word bound) (take schema.arity cells)) e.ends row.ends ∙ length-map (take schema.arity cells) (end_word bound) ∙ length-take-le schema.arity cells (omega (arith, row.width, headings_width schema))
-
-pub row-many-words : (schema : Schema) (bound : ℕ) (cells : List (List ℕ)) (e : Element) → IsRow schema bound cells e → length e.words ≡ length schema.columns
-unfolding words_in
-row-many-words schema bound cells e row =
-    length-all_some (cell_words schema.columns (drop schema.arity cells)) e.words row.words
-    ∙ length-cell_words schema.columns (drop schema.arity cells) (behind-width schema.arity (length schema.columns) cells (row.width ∙ headings_width schema))
-
-pub row-ends-below : (schema : Schema) (bound : ℕ) (cells : List (List ℕ)) (e : Element) → IsRow schema bound cells e → All (λ end. end < bound) e.ends
-unfolding ends_in
-row-ends-below schema bound cells e row k d l = each-value (λ end. end < bound) (end_word bound) (word-below bound) (take schema.arity cells) e.ends row.ends k d l
-
--- what a row's parts that were read make of it
-pub row-fault : (schema : Schema) (bound : ℕ) (cells : List (List ℕ)) (ends ends' ends2 : List ℕ) (words words' : List (List ℕ)) (fault : TableFault)
-    → Appends (ends_in bound schema.arity cells) ends ends2 (Err fault) → GrowsByRow (element_of schema bound cells) ends ends' words words' (Err fault)
-row-fault schema bound cells ends ends' ends2 words words' Bad h = row-ends-bad schema bound cells h
-row-fault schema bound cells ends ends' ends2 words words' Memory h = tt
-
-pub row-reads : (schema : Schema) (bound : ℕ) (cells : List (List ℕ)) (ends ends' more : List ℕ) (words words' : List (List ℕ)) (result : Result (Unit {0}) TableFault)
-    → length cells ≡ length (headings schema) → ends_in bound schema.arity cells ≡ Some more → ends' ≡ ends ++ more
-    → GrowsByWords (words_in schema.arity schema.columns cells) words words' result → GrowsByRow (element_of schema bound cells) ends ends' words words' result
-row-reads schema bound cells ends ends' more words words' (Ok u) e f grows (row, g, same) = (element more row, row-good schema bound cells more row e f g, grows, same)
-row-reads schema bound cells ends ends' more words words' (Err Bad) e f grows h = row-words-bad schema bound cells h
-row-reads schema bound cells ends ends' more words words' (Err Memory) e f grows h = tt
+    by : (many wide : Bool) → nat_lt MOST_ELEMENTS row ≡ many
+        → (if many then Err TooManyRows else if wide then element_in schema bound row cells else Err (Width row)) ≡ Ok e → IsRow schema bound row e
+    by true wide t is = cc is
+    by false false t is = cc is
+    by false true t is = parts (ltb-false MOST_ELEMENTS row t) is

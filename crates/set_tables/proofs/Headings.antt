@@ -1,81 +1,53 @@
--- The headings of a table by their places, and when a record is the header.
-use Rattle.std.proofs.Common.{◌≡◌, ◌≤◌, ◌<◌, ◌+◌, ◌-◌, ℕ, Bool, true, false, List, [], length, map, get_or, refl, sym, ap, ◌∙◌, arith, length-append}
-use Rattle.std.specs.Prelude.{not}
-use Rattle.std.specs.List.{range_with_len}
-use Rattle.std.specs.Bool.{Decides}
+-- The headings of a table by their columns, and how a record is compared with them.
+use Rattle.std.proofs.Common.{◌≡◌, ◌≤◌, ◌<◌, ◌+◌, ◌-◌, ℕ, false, List, [], length, drop, get_or, Err, refl, sym, ap, ◌∙◌, arith, length-append, drop-cons}
 use Rattle.std.specs.Str.{bytes_eq}
-use Rattle.std.proofs.lemmas.Bool.{false≢true}
-use Rattle.std.proofs.lemmas.List.{get_or-append_right, get_or_append_left, get_or-map, get_or_default, length-map, same_lists}
+use Rattle.std.proofs.lemmas.List.{drop_all, get_or-append_right, get_or_append_left, get_or-map, length-map}
 use Rattle.std.proofs.lemmas.List.FromFn.{get_or-map-range_with_len, length-map-range_with_len}
-use Rattle.std.proofs.lemmas.Slice.Eq.{bytes_eq-Decides, slice_eq-Decides}
 use Rattle.ring_words.specs.Cell.{without_spaces}
-use Rattle.set_tables.specs.Schema.{end_heading, headings}
-use Rattle.set_tables.specs.Table.{is_header}
+use Rattle.set_tables.specs.Schema.{column_headings, endpoint_heading, endpoint_headings, headings}
+use Rattle.set_tables.specs.Table.{header_from}
+use Rattle.set_tables.specs.declared.faults.TableFault.TheVariants.{Header}
 use Rattle.set_tables.specs.declared.schema.Column.{Column}
 use Rattle.set_tables.specs.declared.schema.Schema.{Schema}
 
--- the headings of the endpoints
-ends-width : (schema : Schema) → length (map end_heading (range_with_len 0 schema.arity)) ≡ schema.arity
-ends-width schema = length-map-range_with_len end_heading 0 schema.arity
+-- as many headings as endpoints, as columns, and as both together
+pub length-endpoint_headings : (arity : ℕ) → length (endpoint_headings arity) ≡ arity
+length-endpoint_headings arity = length-map-range_with_len endpoint_heading 0 arity
+
+pub length-column_headings : (columns : List Column) → length (column_headings columns) ≡ length columns
+length-column_headings columns = length-map columns (λ (column : Column). column.heading)
 
 pub headings_width : (schema : Schema) → length (headings schema) ≡ schema.arity + length schema.columns
 headings_width schema =
-    length-append (map end_heading (range_with_len 0 schema.arity)) (map (λ (c : Column). c.heading) schema.columns)
-    ∙ omega (arith, ends-width schema, length-map schema.columns (λ (c : Column). c.heading))
+    length-append (endpoint_headings schema.arity) (column_headings schema.columns)
+    ∙ omega (arith, length-endpoint_headings schema.arity, length-column_headings schema.columns)
 
-pub end_heading_at : (schema : Schema) (k : ℕ) → k < schema.arity → get_or (headings schema) k [] ≡ end_heading k
-end_heading_at schema k l =
+pub endpoint_heading_at : (schema : Schema) (k : ℕ) → k < schema.arity → get_or (headings schema) k [] ≡ endpoint_heading k
+endpoint_heading_at schema k l =
     let zero-on : 0 + k ≡ k = omega arith in
-    get_or_append_left (map end_heading (range_with_len 0 schema.arity)) (map (λ (c : Column). c.heading) schema.columns) [] k (omega (arith, ends-width schema))
-    ∙ get_or-map-range_with_len end_heading 0 schema.arity k k [] l zero-on
+    get_or_append_left (endpoint_headings schema.arity) (column_headings schema.columns) [] k (omega (arith, length-endpoint_headings schema.arity))
+    ∙ get_or-map-range_with_len endpoint_heading 0 schema.arity k k [] l zero-on
 
 pub column_heading_at : (schema : Schema) (k : ℕ) (column : Column) → schema.arity ≤ k → k - schema.arity < length schema.columns → column ≡ get_or schema.columns (k - schema.arity) column
     → get_or (headings schema) k [] ≡ column.heading
 column_heading_at schema k column l m is =
-    get_or-append_right (map end_heading (range_with_len 0 schema.arity)) (map (λ (c : Column). c.heading) schema.columns) schema.arity k [] (ends-width schema) l
+    get_or-append_right (endpoint_headings schema.arity) (column_headings schema.columns) schema.arity k [] (length-endpoint_headings schema.arity) l
     ∙ get_or-map (λ (c : Column). c.heading) schema.columns (k - schema.arity) column [] m
     ∙ ap (λ (c : Column). c.heading) (sym is)
 
--- the header, decided
-pub header-Decides : (schema : Schema) (cells : List (List ℕ)) → Decides (is_header schema cells) (map without_spaces cells ≡ headings schema)
-header-Decides schema cells = slice_eq-Decides bytes_eq-Decides (map without_spaces cells) (headings schema) _ refl
+-- the columns before one have their headings, and the header's fault is that of the others
+pub record Agrees (cells headings : List (List ℕ)) (column : ℕ) : Type 0 where
+  pub within : column ≤ length cells
+  pub is : header_from 0 cells headings ≡ header_from column (drop column cells) (drop column headings)
 
--- a test of what can't be is false
-not-decided : {P : Type 0} (b : Bool) → Decides b P → (P → ⊥) → false ≡ b
-not-decided true d n = absurd (n (d.0 refl))
-not-decided false d n = refl
+-- a column where the cell isn't its heading
+pub agrees-differs : (cells headings : List (List ℕ)) (column : ℕ) → column < length cells → column < length headings
+    → bytes_eq (get_or headings column []) (without_spaces (get_or cells column [])) ≡ false → Agrees cells headings column → header_from 0 cells headings ≡ Err (Header column)
+agrees-differs cells headings column l m other h = h.is ∙ rw (drop-cons cells column [], drop-cons headings column [], other) refl
 
--- a record of another width is no header
-pub header-width : (schema : Schema) (cells : List (List ℕ)) (width : ℕ) → length cells ≡ width → ((length (headings schema) ≡ width) → ⊥) → false ≡ is_header schema cells
-header-width schema cells width e ne =
-    not-decided _ (header-Decides schema cells) (λ same. ne (sym (ap length same) ∙ length-map cells without_spaces ∙ e))
+-- the cells have ended before the headings, and the headings before the cells
+pub agrees-ended : (cells headings : List (List ℕ)) (column : ℕ) → column ≡ length cells → column < length headings → Agrees cells headings column → header_from 0 cells headings ≡ Err (Header column)
+agrees-ended cells headings column e m h = h.is ∙ rw (drop_all column cells (omega arith), drop-cons headings column []) refl
 
--- each cell is its heading, or one isn't
-pub header-same : (schema : Schema) (cells : List (List ℕ)) → length cells ≡ length (headings schema)
-    → ((j : ℕ) → j < length (headings schema) → without_spaces (get_or cells j []) ≡ get_or (headings schema) j []) → true ≡ is_header schema cells
-header-same schema cells e h =
-    sym ((header-Decides schema cells).1 (same_lists _ _ (length-map cells without_spaces ∙ e)
-    (λ k d l.
-    let in' : k < length cells = omega (arith, length-map cells without_spaces) in
-    let at : k < length (headings schema) = omega arith in
-    get_or-map without_spaces cells k [] d in' ∙ h k at ∙ get_or_default (headings schema) k [] d at)))
-
-pub header-differs : (schema : Schema) (cells : List (List ℕ)) (k : ℕ) (cell heading : List ℕ) → k < length cells
-    → cell ≡ without_spaces (get_or cells k []) → heading ≡ get_or (headings schema) k [] → true ≡ not (bytes_eq cell heading) → false ≡ is_header schema cells
-header-differs schema cells k cell heading l c h e =
-    not-decided _ (header-Decides schema cells) (λ same.
-    let at : without_spaces (get_or cells k []) ≡ get_or (headings schema) k [] =
-    sym (get_or-map without_spaces cells k [] [] l) ∙ ap (λ (xs : List (List ℕ)). get_or xs k []) same in
-    let equal : cell ≡ heading = c ∙ at ∙ sym h in
-    let test : bytes_eq cell heading ≡ true = (bytes_eq-Decides cell heading).1 equal in
-    false≢true (sym (e ∙ ap not test)))
-
-pub heading-same : (schema : Schema) (cells : List (List ℕ)) (k : ℕ) (cell heading : List ℕ)
-    → cell ≡ without_spaces (get_or cells k []) → heading ≡ get_or (headings schema) k [] → false ≡ not (bytes_eq cell heading) → without_spaces (get_or cells k []) ≡ get_or (headings schema) k []
-heading-same schema cells k cell heading c h e =
-    let test : bytes_eq cell heading ≡ true = by (bytes_eq cell heading) e in
-    sym c ∙ (bytes_eq-Decides cell heading).0 test ∙ h
-  where
-    by : (b : Bool) → false ≡ not b → b ≡ true
-    by true e = refl
-    by false e = cc e
+pub agrees-more : (cells headings : List (List ℕ)) (column : ℕ) → column < length cells → column ≡ length headings → Agrees cells headings column → header_from 0 cells headings ≡ Err (Header column)
+agrees-more cells headings column l e h = h.is ∙ rw (drop-cons cells column [], drop_all column headings (omega arith)) refl

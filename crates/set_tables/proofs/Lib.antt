@@ -1,7 +1,11 @@
 pub mod Headings
 pub mod RecordsLeft
-pub mod AllThere
+pub mod Bound
 pub mod ElementsRead
 pub mod RowsRead
 pub mod TableRead
+pub mod Appending
 pub mod LinesWritten
+pub mod ColumnsFetched
+pub mod Sums
+pub mod TextSizes

@@ -1,184 +1,121 @@
--- How the cells of a line, and the lines of a table, follow one another.
-use Rattle.std.proofs.Common.{◌≡◌, ◌≤◌, ◌<◌, ◌+◌, ◌-◌, ℕ, zero, suc, List, [], ◌∷◌, ◌++◌, length, drop, get_or, map, refl, sym, ap, ◌∙◌, arith, append_assoc, length-append, drop-cons, add-one, subst, Vec, Global, vec_len, vec_capacity}
+-- The parts of a line, and of a table's text.
+use Rattle.std.proofs.Common.{◌≡◌, ◌<◌, ◌+◌, ℕ, zero, suc, List, [], ◌∷◌, ◌++◌, length, map, get_or, refl, sym, ap, ◌∙◌, arith, append_assoc, append-nil, add-one}
 use Rattle.std.specs.Prelude.{slice_index}
-use Rattle.std.specs.List.{flat_map, join_with_byte, range_with_len, zip}
-use Rattle.std.proofs.lemmas.List.{append-nil, drop_all, get_or-append_right, get_or_append_left, get_or-map, length-map}
-use Rattle.std.proofs.lemmas.List.FromFn.{get_or-map-range_with_len, length-map-range_with_len}
+use Rattle.std.specs.Borrow.{Bor}
+use Rattle.std.specs.List.{enumerate_from, flat_map, join_with_byte, range_with_len, zip}
+use Rattle.std.proofs.lemmas.List.{get_or-map, length-map, map-id}
+use Rattle.std.proofs.lemmas.List.FromFn.{get_or-enumerate_from, get_or-range_with_len, length-enumerate_from, length-map-range_with_len}
 use Rattle.std.proofs.lemmas.Slice.Zip.{get_or-zip, length-zip}
+use Rattle.vocabulary.specs.declared.marks.TheConstants.{COMMA, LINE_FEED}
 use Rattle.ring_words.specs.Cell.{text}
-use Rattle.set_tables.specs.Output.{Grows, comma, element_cells, element_lines, line, line_feed, name_line, separator, table_text}
-use Rattle.hypergraph.specs.SetShape.{SetShape, column_at, end_at}
-use Rattle.set_tables.specs.Schema.{headings}
-use Rattle.set_tables.proofs.Headings.{headings_width}
-use Rattle.set_tables.specs.declared.schema.Schema.{Schema}
+use Rattle.hypergraph.specs.SetValue.{SetValue, endpoint_at}
+use Rattle.set_tables.specs.Output.{element_cells, element_lines, line, name_line, table_text}
+use Rattle.set_tables.specs.WritingSteps.{column_headings_text, endpoint_headings_text, endpoints_text, separated, separator, words_text}
+use Rattle.set_tables.specs.Schema.{endpoint_heading, headings}
 use Rattle.set_tables.specs.declared.schema.Column.{Column}
+use Rattle.set_tables.specs.declared.schema.Schema.{Schema}
 
--- a line's cells, the first apart
-joined : (cell : List ℕ) (cells : List (List ℕ)) → join_with_byte comma (cell ∷ cells) ≡ cell ++ flat_map (λ c. comma ∷ c) cells
-joined cell [] = sym (append-nil cell)
-joined cell (next ∷ cells) = ap (λ (xs : List ℕ). cell ++ (comma ∷ xs)) (joined next cells)
+-- the cells of a line from a column on
+abbrev cells_from : ℕ → List (List ℕ) → List ℕ
+cells_from column cells = flat_map (λ p. separated p.0 p.1) (enumerate_from column cells)
 
--- what is left of a line at the place of a cell
-abbrev pub left_of_line : ℕ → List (List ℕ) → List ℕ
-left_of_line zero cells = line cells
-left_of_line (suc k) cells = flat_map (λ c. comma ∷ c) (drop (suc k) cells) ++ line_feed ∷ []
+-- a line is its cells, each after its separator, and a line feed
+joined : (cell : List ℕ) (column : ℕ) (cells : List (List ℕ)) → join_with_byte COMMA (cell ∷ cells) ≡ cell ++ cells_from (column + 1) cells
+joined cell column [] = sym (append-nil cell)
+joined cell column (next ∷ cells) =
+    let comma : separator (column + 1) ≡ COMMA ∷ [] = rw (add-one column) refl in
+    ap (λ (xs : List ℕ). cell ++ (COMMA ∷ xs)) (joined next (column + 1) cells) ∙ ap (λ (xs : List ℕ). cell ++ ((xs ++ next) ++ cells_from (column + 1 + 1) cells)) (sym comma)
 
--- a cell more
-pub cell-more : (k : ℕ) (cells : List (List ℕ)) → k < length cells → left_of_line k cells ≡ separator k ++ (get_or cells k [] ++ left_of_line (k + 1) cells)
-cell-more zero [] l = absurd (omega arith)
-cell-more zero (cell ∷ cells) l =
-    ap (λ (xs : List ℕ). xs ++ line_feed ∷ []) (joined cell cells) ∙ append_assoc cell (flat_map (λ c. comma ∷ c) cells) (line_feed ∷ [])
-cell-more (suc k) cells l =
-    rw (add-one (suc k), drop-cons cells (suc k) [])
-    (append_assoc (comma ∷ get_or cells (suc k) []) (flat_map (λ c. comma ∷ c) (drop (suc (suc k)) cells)) (line_feed ∷ []))
+line-cells : (cells : List (List ℕ)) → line cells ≡ cells_from 0 cells ++ LINE_FEED ∷ []
+line-cells [] = refl
+line-cells (cell ∷ cells) = ap (λ (xs : List ℕ). xs ++ LINE_FEED ∷ []) (joined cell 0 cells)
 
--- no cell more
-pub line-ends : (k : ℕ) (cells : List (List ℕ)) → length cells ≤ k → k ≤ length cells → left_of_line k cells ≡ line_feed ∷ []
-line-ends zero [] l m = refl
-line-ends zero (cell ∷ cells) l m = absurd (omega arith)
-line-ends (suc k) cells l m = rw (drop_all (suc k) cells l) refl
+-- cells in two parts, and cells that are made of other things
+cells-parts : (column : ℕ) (xs ys : List (List ℕ)) → cells_from column (xs ++ ys) ≡ cells_from column xs ++ cells_from (column + length xs) ys
+cells-parts column [] ys = let on : column ≡ column + 0 = omega arith in ap (λ n. cells_from n ys) on
+cells-parts column (x ∷ xs) ys =
+    let on : column + 1 + length xs ≡ column + suc (length xs) = omega arith in
+    ap (λ (bytes : List ℕ). separated column x ++ bytes) (cells-parts (column + 1) xs ys ∙ ap (λ n. cells_from (column + 1) xs ++ cells_from n ys) on)
+    ∙ sym (append_assoc (separated column x) (cells_from (column + 1) xs) (cells_from (column + suc (length xs)) ys))
 
--- the lines of elements, one more and none more
-pub element-more : (schema : Schema) (set : SetShape) (element count : ℕ) → element < count
-    → element_lines schema set element (count - element) ≡ line (element_cells schema set element) ++ element_lines schema set (element + 1) (count - (element + 1))
-element-more schema set element count l =
-    let n : count - element ≡ suc (count - (element + 1)) = omega arith in
-    rw n refl
+cells-range : (g : ℕ → List ℕ) (a n : ℕ) → cells_from a (map g (range_with_len a n)) ≡ flat_map (λ k. separated k (g k)) (range_with_len a n)
+cells-range g a zero = refl
+cells-range g a (suc n) = ap (λ (bytes : List ℕ). separated a (g a) ++ bytes) (cells-range g (a + 1) n)
 
-pub elements-end : (schema : Schema) (set : SetShape) (element count : ℕ) → count ≤ element → element_lines schema set element (count - element) ≡ []
-elements-end schema set element count l =
-    let n : count - element ≡ 0 = omega arith in
-    rw n refl
+cells-map : {A : Type 0} (h : A → List ℕ) (column : ℕ) (ys : List A) → cells_from column (map h ys) ≡ flat_map (λ p. separated p.0 (h p.1)) (enumerate_from column ys)
+cells-map h column [] = refl
+cells-map h column (y ∷ ys) = ap (λ (bytes : List ℕ). separated column (h y) ++ bytes) (cells-map h (column + 1) ys)
 
--- a text is being appended where there is room for it, and so much of it is left
-pub record IsWriting {Z : Type 0} (start now : Vec ℕ Z) (whole left : List ℕ) : Type 0 where
-  pub written : now.items ++ left ≡ start.items ++ whole
-  pub kept : vec_capacity start ≤ vec_capacity now
-  pub room : vec_len start + length whole ≤ vec_capacity start
+-- a line of cells by number, and after them cells of a list
+line-parts : {A : Type 0} (g : ℕ → List ℕ) (h : A → List ℕ) (n : ℕ) (ys : List A)
+    → line (map g (range_with_len 0 n) ++ map h ys) ≡ flat_map (λ k. separated k (g k)) (range_with_len 0 n) ++ (flat_map (λ p. separated p.0 (h p.1)) (enumerate_from n ys) ++ LINE_FEED ∷ [])
+line-parts g h n ys =
+    let front = map g (range_with_len 0 n) in
+    let size : 0 + length front ≡ n = omega (arith, length-map-range_with_len g 0 n) in
+    line-cells (front ++ map h ys)
+    ∙ ap (λ (bytes : List ℕ). bytes ++ LINE_FEED ∷ []) (cells-parts 0 front (map h ys) ∙ ap (λ m. cells_from 0 front ++ cells_from m (map h ys)) size)
+    ∙ append_assoc (cells_from 0 front) (cells_from n (map h ys)) (LINE_FEED ∷ [])
+    ∙ ap (λ (bytes : List ℕ). bytes ++ (cells_from n (map h ys) ++ LINE_FEED ∷ [])) (cells-range g 0 n)
+    ∙ ap (λ (bytes : List ℕ). flat_map (λ k. separated k (g k)) (range_with_len 0 n) ++ (bytes ++ LINE_FEED ∷ [])) (cells-map h n ys)
 
-pub starts : {Z : Type 0} (start : Vec ℕ Z) (whole : List ℕ) → vec_len start + length whole ≤ vec_capacity start → IsWriting start start whole whole
-starts start whole fits = record {
-  written = refl;
-  kept = omega arith;
-  room = fits;
-}
+-- the line of headings, and that of an element
+pub header-parts : (schema : Schema) → line (headings schema) ≡ endpoint_headings_text schema.arity ++ (column_headings_text schema.arity schema.columns ++ LINE_FEED ∷ [])
+header-parts schema = line-parts endpoint_heading (λ (column : Column). column.heading) schema.arity schema.columns
 
-pub left-is : {Z : Type 0} (start now : Vec ℕ Z) (whole left left' : List ℕ) → IsWriting start now whole left → left ≡ left' → IsWriting start now whole left'
-left-is {Z} start now whole left left' w e = subst (λ (xs : List ℕ). IsWriting start now whole xs) e w
+pub element-parts : (schema : Schema) (set : SetValue) (element : ℕ)
+    → line (element_cells schema set element) ≡ endpoints_text schema.arity set element ++ (words_text schema.arity schema.columns set.columns element ++ LINE_FEED ∷ [])
+element-parts schema set element =
+    line-parts (λ position. text 0 (endpoint_at set element position)) (λ (p : Column × List ℕ). text p.0.scale (slice_index p.1 element)) schema.arity (zip schema.columns set.columns)
 
--- there is room for the next piece
-pub has-room : {Z : Type 0} (start now : Vec ℕ Z) (whole piece left : List ℕ) → IsWriting start now whole (piece ++ left) → vec_len now + length piece ≤ vec_capacity now
-has-room start now whole piece left w =
-    let size : length now.items + (length piece + length left) ≡ length start.items + length whole = simp length-append at (ap length w.written) in
-    omega (arith, now.ok.0, start.ok.0, w.kept, w.room)
-
--- the next piece was appended
-pub wrote : {Z : Type 0} (start now new : Vec ℕ Z) (whole piece left : List ℕ) → IsWriting start now whole (piece ++ left) → Grows now new piece → IsWriting start new whole left
-wrote start now new whole piece left w g = record {
-  written = rw g.0 (append_assoc now.items piece left ∙ w.written);
-  kept = (let a = w.kept in let b = g.1 in omega arith);
-  room = w.room;
-}
-
--- nothing is left
-pub all-written : {Z : Type 0} (start now : Vec ℕ Z) (whole : List ℕ) → IsWriting start now whole [] → Grows start now whole
-all-written start now whole w = (sym (append-nil now.items) ∙ w.written, w.kept)
-
--- the next cell of a line with what parts it from the last, and then what is left
-pub next-cell : {Z : Type 0} (start now : Vec ℕ Z) (cells : List (List ℕ)) (k : ℕ) (cell : List ℕ) → k < length cells → get_or cells k [] ≡ cell
-    → IsWriting start now (line cells) (left_of_line k cells) → IsWriting start now (line cells) (separator k ++ (cell ++ left_of_line (k + 1) cells))
-next-cell start now cells k cell l is w =
-    left-is start now (line cells) _ _ w (cell-more k cells l ∙ ap (λ (c : List ℕ). separator k ++ (c ++ left_of_line (k + 1) cells)) is)
-
--- the end of a line
-pub at-end : {Z : Type 0} (start now : Vec ℕ Z) (cells : List (List ℕ)) (k : ℕ) → length cells ≤ k → k ≤ length cells
-    → IsWriting start now (line cells) (left_of_line k cells) → IsWriting start now (line cells) ((line_feed ∷ []) ++ [])
-at-end start now cells k l m w = left-is start now (line cells) _ _ w (line-ends k cells l m)
-
--- an element's cells
-ends-width : (schema : Schema) (set : SetShape) (element : ℕ) → length (map (λ place. text 0 (end_at set element place)) (range_with_len 0 schema.arity)) ≡ schema.arity
-ends-width schema set element = length-map-range_with_len (λ place. text 0 (end_at set element place)) 0 schema.arity
-
-pub length_element_cells : (schema : Schema) (set : SetShape) (element : ℕ) → length set.columns ≡ length schema.columns → length (element_cells schema set element) ≡ length (headings schema)
-length_element_cells schema set element e =
-    length-append (map (λ place. text 0 (end_at set element place)) (range_with_len 0 schema.arity)) (map (λ (p : Column × List ℕ). text p.0.scale (slice_index p.1 element)) (zip schema.columns set.columns))
-    ∙ omega (arith, ends-width schema set element, length-map (zip schema.columns set.columns) (λ (p : Column × List ℕ). text p.0.scale (slice_index p.1 element)), length-zip schema.columns set.columns, headings_width schema)
-
--- the cell of an endpoint, and that of a word, by their places
-pub end_cell_at : (schema : Schema) (set : SetShape) (element k : ℕ) → k < schema.arity → get_or (element_cells schema set element) k [] ≡ text 0 (end_at set element k)
-end_cell_at schema set element k l =
-    let cells = map (λ place. text 0 (end_at set element place)) (range_with_len 0 schema.arity) in
-    let zero-on : 0 + k ≡ k = omega arith in
-    get_or_append_left cells (map (λ (p : Column × List ℕ). text p.0.scale (slice_index p.1 element)) (zip schema.columns set.columns)) [] k (omega (arith, ends-width schema set element))
-    ∙ get_or-map-range_with_len (λ place. text 0 (end_at set element place)) 0 schema.arity k k [] l zero-on
-
-pub word_cell_at : (schema : Schema) (set : SetShape) (element k : ℕ) (column : Column) (words : List ℕ) → schema.arity ≤ k → k - schema.arity < length schema.columns → length set.columns ≡ length schema.columns
-    → column ≡ get_or schema.columns (k - schema.arity) column → words ≡ column_at set (k - schema.arity)
-    → get_or (element_cells schema set element) k [] ≡ text column.scale (slice_index words element)
-word_cell_at schema set element k column words l m e is of =
-    let j = k - schema.arity in
-    let there : j < length set.columns = omega arith in
-    let n : j < length (zip schema.columns set.columns) = omega (arith, length-zip schema.columns set.columns) in
-    let d : Column × List ℕ = (column, []) in
-    get_or-append_right (map (λ place. text 0 (end_at set element place)) (range_with_len 0 schema.arity)) (map (λ (p : Column × List ℕ). text p.0.scale (slice_index p.1 element)) (zip schema.columns set.columns)) schema.arity k [] (ends-width schema set element) l
-    ∙ get_or-map (λ (p : Column × List ℕ). text p.0.scale (slice_index p.1 element)) (zip schema.columns set.columns) j d [] n
-    ∙ ap (λ (p : Column × List ℕ). text p.0.scale (slice_index p.1 element)) (get_or-zip schema.columns set.columns j d m there)
-    ∙ rw (← is, ← of) refl
-
--- the cell itself, once its separator is written
-pub after-separator : {Z : Type 0} (start now new : Vec ℕ Z) (cells : List (List ℕ)) (k : ℕ) (cell : List ℕ) → k < length cells → get_or cells k [] ≡ cell
-    → IsWriting start now (line cells) (left_of_line k cells) → Grows now new (separator k) → IsWriting start new (line cells) (cell ++ left_of_line (k + 1) cells)
-after-separator start now new cells k cell l is w g =
-    wrote start now new (line cells) (separator k) (cell ++ left_of_line (k + 1) cells) (next-cell start now cells k cell l is w) g
-
--- the parts of a table's text
-pub table-starts : (start : Vec ℕ Global) (schema : Schema) (set : SetShape) → vec_len start + length (table_text schema set) ≤ vec_capacity start
-    → IsWriting start start (table_text schema set) (name_line schema.name ++ (line (headings schema) ++ element_lines schema set 0 (set.count - 0)))
+-- the text of a table
+pub table-parts : (schema : Schema) (set : SetValue) → table_text schema set ≡ name_line schema.name ++ (line (headings schema) ++ element_lines schema set)
 unfolding table_text
-table-starts start schema set fits =
-    let n : set.count - 0 ≡ set.count = omega arith in
-    rw n (left-is start start (table_text schema set) _ _ (starts start (table_text schema set) fits)
-    (append_assoc (name_line schema.name) (line (headings schema)) (element_lines schema set 0 set.count)))
+table-parts schema set = append_assoc (name_line schema.name) (line (headings schema)) (element_lines schema set)
 
-pub after-header : (start named headed : Vec ℕ Global) (schema : Schema) (set : SetShape) → vec_len start + length (table_text schema set) ≤ vec_capacity start
-    → Grows start named (name_line schema.name) → Grows named headed (line (headings schema))
-    → IsWriting start headed (table_text schema set) (element_lines schema set 0 (set.count - 0))
-after-header start named headed schema set fits g h =
-    wrote start named headed (table_text schema set) (line (headings schema)) _
-    (wrote start start named (table_text schema set) (name_line schema.name) _ (table-starts start schema set fits) g) h
+-- the pieces of which they are made, one for each position, column or element
+abbrev pub endpoint_heading_piece : ℕ → List ℕ
+endpoint_heading_piece position = separated position (endpoint_heading position)
 
-pub next-element : (start now : Vec ℕ Global) (schema : Schema) (set : SetShape) (element : ℕ) → element < set.count
-    → IsWriting start now (table_text schema set) (element_lines schema set element (set.count - element))
-    → IsWriting start now (table_text schema set)
-    (line (element_cells schema set element) ++ element_lines schema set (element + 1) (set.count - (element + 1)))
-next-element start now schema set element l w = left-is start now (table_text schema set) _ _ w (element-more schema set element set.count l)
+abbrev pub column_heading_piece : ℕ × Column → List ℕ
+column_heading_piece p = separated p.0 p.1.heading
 
--- the same, in lengths
-pub length-more : (k : ℕ) (cells : List (List ℕ)) (cell : List ℕ) → k < length cells → get_or cells k [] ≡ cell
-    → length (left_of_line k cells) ≡ length (separator k) + (length cell + length (left_of_line (k + 1) cells))
-length-more k cells cell l is =
-    ap length (cell-more k cells l) ∙ length-append (separator k) (get_or cells k [] ++ left_of_line (k + 1) cells)
-    ∙ ap (λ n. length (separator k) + n) (length-append (get_or cells k []) (left_of_line (k + 1) cells) ∙ ap (λ (c : List ℕ). length c + length (left_of_line (k + 1) cells)) is)
+abbrev pub endpoint_piece : SetValue → ℕ → ℕ → List ℕ
+endpoint_piece set element position = separated position (text 0 (endpoint_at set element position))
 
-pub length-end : (k : ℕ) (cells : List (List ℕ)) → length cells ≤ k → k ≤ length cells → length (left_of_line k cells) ≡ 1
-length-end k cells l m = ap length (line-ends k cells l m)
+abbrev pub word_piece : ℕ → ℕ × (Column × List ℕ) → List ℕ
+word_piece element p = separated p.0 (text p.1.0.scale (slice_index p.1.1 element))
 
--- the length of a table's text, and of the lines of its elements
-pub length-table : (schema : Schema) (set : SetShape)
-    → length (table_text schema set) ≡ 5 + length schema.name + length (line (headings schema)) + length (element_lines schema set 0 (set.count - 0))
-unfolding table_text
-length-table schema set =
-    let n : set.count - 0 ≡ set.count = omega arith in
-    let lines = element_lines schema set 0 set.count in
-    let header = line (headings schema) in
-    let parts : length ((name_line schema.name ++ header) ++ lines) ≡ (length (name_line schema.name) + length header) + length lines =
-    length-append (name_line schema.name ++ header) lines ∙ ap (λ m. m + length lines) (length-append (name_line schema.name) header) in
-    let name : length (name_line schema.name) ≡ 5 + length schema.name = ap (λ m. suc (suc (suc (suc m)))) (length-append schema.name (line_feed ∷ [])) ∙ omega arith in
-    rw n (omega arith)
+abbrev pub line_piece : Schema → SetValue → ℕ → List ℕ
+line_piece schema set element = line (element_cells schema set element)
 
-pub length-element : (schema : Schema) (set : SetShape) (element : ℕ) → element < set.count
-    → length (element_lines schema set element (set.count - element))
-    ≡ length (line (element_cells schema set element)) + length (element_lines schema set (element + 1) (set.count - (element + 1)))
-length-element schema set element l =
-    ap length (element-more schema set element set.count l)
-    ∙ length-append (line (element_cells schema set element)) (element_lines schema set (element + 1) (set.count - (element + 1)))
+-- what stands at an index of the lists that the pieces are made for
+pub range-at : (n k : ℕ) → k < n → get_or (range_with_len 0 n) k k ≡ k
+range-at n k l = get_or-range_with_len 0 n k k l ∙ omega arith
+
+pub length-range : (n : ℕ) → length (range_with_len 0 n) ≡ n
+length-range n = ap length (sym (map-id (range_with_len 0 n))) ∙ length-map-range_with_len (λ k. k) 0 n
+
+pub numbered-at : {A : Type 0} (n : ℕ) (xs : List A) (k : ℕ) (x : A) → k < length xs → x ≡ get_or xs k x → get_or (enumerate_from n xs) k (n + k, x) ≡ (n + k, x)
+numbered-at n xs k x l is = get_or-enumerate_from n xs k (n + k, x) l ∙ ap (λ y. (n + k, y)) (sym is)
+
+pub zipped-at : (columns : List Column) (words : List (List ℕ)) (k : ℕ) (column : Column) (ws : List ℕ) → k < length columns → k < length words → column ≡ get_or columns k column → ws ≡ get_or words k ws
+    → (column, ws) ≡ get_or (zip columns words) k (column, ws)
+zipped-at columns words k column ws l m is of = sym (get_or-zip columns words k (column, ws) l m ∙ rw (← is, ← of) refl)
+
+-- the word of a column, which is fetched among others
+pub fetched-at : (arity : ℕ) (columns : List Column) (words : List (Bor (List ℕ))) (k : ℕ) (column : Column) (d : Bor (List ℕ)) → length words ≡ length columns → k < length columns
+    → column ≡ get_or columns k column
+    → get_or (enumerate_from arity (zip columns (map (λ w. w.now) words))) k (arity + k, (column, (get_or words k d).now)) ≡ (arity + k, (column, (get_or words k d).now))
+fetched-at arity columns words k column d e l is =
+    let all = map (λ (w : Bor (List ℕ)). w.now) words in
+    let m : k < length all = omega (arith, length-map words (λ (w : Bor (List ℕ)). w.now)) in
+    let n : k < length (zip columns all) = omega (arith, length-zip columns all) in
+    let in' : k < length words = omega arith in
+    numbered-at arity (zip columns all) k (column, (get_or words k d).now) n
+    (zipped-at columns all k column (get_or words k d).now l m is (sym (get_or-map (λ (w : Bor (List ℕ)). w.now) words k d (get_or words k d).now in')))
+
+pub length-fetched : (arity : ℕ) (columns : List Column) (words : List (Bor (List ℕ))) → length words ≡ length columns
+    → length (enumerate_from arity (zip columns (map (λ w. w.now) words))) ≡ length columns
+length-fetched arity columns words e =
+    let all = map (λ (w : Bor (List ℕ)). w.now) words in
+    length-enumerate_from arity (zip columns all) ∙ length-zip columns all ∙ omega (arith, length-map words (λ (w : Bor (List ℕ)). w.now))

@@ -86,7 +86,7 @@ left-none s s2 xs (Some ys) fields r = rw (add-one (length xs)) (by (next_record
     by None n = refl
     by (Some p) n = cc n.0
 
--- fields of at most n bytes, and one more
+-- fields of at most n bytes, and another
 push-short : (n : ℕ) (fields : List (List ℕ)) (field : List ℕ) → AllByRecursion (λ g. length g ≤ n) fields → length field ≤ n → AllByRecursion (λ g. length g ≤ n) (fields ++ field ∷ [])
 push-short n [] field h l = (l, tt)
 push-short n (g ∷ fields) field h l = (h.0, push-short n fields field h.1 l)

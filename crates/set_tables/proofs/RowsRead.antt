@@ -1,23 +1,19 @@
 -- How the elements of rows gather in endpoints and columns.
-use Rattle.std.proofs.Common.{subst, leb-true, le-leb, ◌≡◌, ◌≤◌, ◌<◌, ◌+◌, ℕ, zero, suc, Bool, true, false, List, [], ◌∷◌, ◌++◌, length, map, get_or, replicate, Some, None, Err, refl, sym, ap, ◌∙◌, arith, append_assoc, length-append}
-use Rattle.std.specs.Prelude.{nat_le, slice_index, if◌then◌else◌}
-use Rattle.std.specs.List.{All, flat_map, range_with_len}
+use Rattle.std.proofs.Common.{subst, ◌≡◌, ◌≤◌, ◌<◌, ◌+◌, ℕ, zero, suc, List, [], ◌∷◌, ◌++◌, length, map, get_or, replicate, Ok, refl, sym, ap, ◌∙◌, arith, length-append, append-nil}
+use Rattle.std.specs.Prelude.{slice_index}
+use Rattle.std.proofs.Common.{inl, inr}
+use Rattle.std.specs.List.{All, enumerate_from, flat_map, range_with_len}
 use Rattle.std.proofs.lemmas.Grind.{flat_map-append}
-use Rattle.std.proofs.lemmas.List.{replicate-append-replicate, append-nil, map-append, same_lists}
+use Rattle.std.proofs.lemmas.List.{map-append, same_lists}
 use Rattle.std.proofs.lemmas.List.FromFn.{get_or-map-range_with_len, length-map-range_with_len}
-use Rattle.hypergraph.specs.SetShape.{most_elements}
-use Rattle.set_tables.specs.Reading.{GrowsByRow, GrowsByRows, with_row}
+use Rattle.vocabulary.specs.declared.limits.TheConstants.{MOST_ELEMENTS}
+use Rattle.set_tables.specs.ReadingSteps.{AreOf, Fails, with_row}
 use Rattle.set_tables.specs.Records.{AreShort}
-use Rattle.set_tables.specs.Table.{Element, all_some, columns_of, element_of, elements_of}
-use Rattle.set_tables.specs.declared.reading.TableFault.{TableFault}
-use Rattle.set_tables.specs.declared.reading.TableFault.TheVariants.{Bad, Memory}
+use Rattle.set_tables.specs.Table.{Element, columns_of, element_of, elements_from}
+use Rattle.set_tables.specs.declared.faults.TableFault.{TableFault}
 use Rattle.set_tables.specs.declared.schema.Schema.{Schema}
-use Rattle.set_tables.proofs.AllThere.{all_some-push, one-missing-between}
-use Rattle.set_tables.proofs.ElementsRead.{length-with_row, row-many-words, row-parts, with_row-at}
-
--- one more empty column
-pub replicate-push : {A : Type 0} (n : ℕ) (x : A) → replicate n x ++ x ∷ [] ≡ replicate (n + 1) x
-replicate-push n x = replicate-append-replicate n 1 x
+use Rattle.set_tables.proofs.Bound.{Continues, another, ends, fails, starts}
+use Rattle.set_tables.proofs.ElementsRead.{length-with_row, row-is, with_row-at}
 
 -- a column's word at an element
 abbrev word_in : ℕ → Element → ℕ
@@ -28,7 +24,7 @@ empty-columns : (a n : ℕ) → replicate n [] ≡ map (λ k. map (word_in k) []
 empty-columns a zero = refl
 empty-columns a (suc n) = ap (λ (xs : List (List ℕ)). [] ∷ xs) (empty-columns (a + 1) n)
 
--- an element more in each column
+-- another element in each column
 columns-push : (n : ℕ) (elements : List Element) (e : Element) → length e.words ≡ n → with_row (columns_of n elements) e.words ≡ columns_of n (elements ++ e ∷ [])
 columns-push n elements e m =
     let size : length (columns_of n elements) ≡ n = length-map-range_with_len (λ k. map (word_in k) elements) 0 n in
@@ -44,89 +40,71 @@ columns-push n elements e m =
     ∙ sym (get_or-map-range_with_len (λ k. map (word_in k) (elements ++ e ∷ [])) 0 n k k d below zero-on))
 
 -- so many rows were read, and the lists are the endpoints and the columns of their elements
-pub record HasRead (schema : Schema) (bound : ℕ) (rows left : List (List (List ℕ))) (count : ℕ) (ends : List ℕ) (words : List (List ℕ)) : Type 0 where
-  pub done : List (List (List ℕ))
+pub record HasRead (schema : Schema) (bound : ℕ) (rows left : List (List (List ℕ))) (count : ℕ) (endpoints : List ℕ) (columns : List (List ℕ)) : Type 0 where
   pub elements : List Element
-  pub split : rows ≡ done ++ left
-  pub counted : length done ≡ count
-  pub stated : all_some (map (element_of schema bound) done) ≡ Some elements
-  pub ends_kept : ends ≡ flat_map (λ e. e.ends) elements
-  pub words_kept : words ≡ columns_of (length schema.columns) elements
+  pub known : Continues (elements_from schema bound 1 rows) (elements_from schema bound (count + 1) left) elements
+  pub counted : count ≡ length elements
+  pub few : count ≤ MOST_ELEMENTS
+  pub endpoints_are : endpoints ≡ flat_map (λ e. e.endpoints) elements
+  pub columns_are : columns ≡ columns_of (length schema.columns) elements
 
-pub read-start : (schema : Schema) (bound : ℕ) (rows : List (List (List ℕ))) (ends : List ℕ) (words : List (List ℕ)) → ends ≡ [] → words ≡ replicate (length schema.columns) [] → HasRead schema bound rows rows 0 ends words
-read-start schema bound rows ends words no-ends no-words = record {
-  done = [];
+pub read-start : (schema : Schema) (bound : ℕ) (rows : List (List (List ℕ))) (endpoints : List ℕ) (columns : List (List ℕ)) → endpoints ≡ [] → columns ≡ replicate (length schema.columns) []
+    → HasRead schema bound rows rows 0 endpoints columns
+read-start schema bound rows endpoints columns no-endpoints no-words = record {
   elements = [];
-  split = refl;
+  known = starts (elements_from schema bound 1 rows);
   counted = refl;
-  stated = refl;
-  ends_kept = no-ends;
-  words_kept = no-words ∙ empty-columns 0 (length schema.columns);
+  few = omega arith;
+  endpoints_are = no-endpoints;
+  columns_are = no-words ∙ empty-columns 0 (length schema.columns);
 }
 
-pub read-step : (schema : Schema) (bound : ℕ) (rows left left' : List (List (List ℕ))) (row : List (List ℕ)) (count : ℕ) (ends ends' : List ℕ) (words words' : List (List ℕ)) (e : Element)
-    → HasRead schema bound rows left count ends words → left ≡ row ∷ left' → element_of schema bound row ≡ Some e → ends' ≡ ends ++ e.ends → words' ≡ with_row words e.words
-    → HasRead schema bound rows left' (count + 1) ends' words'
-read-step schema bound rows left left' row count ends ends' words words' e h first is more-ends more-words = record {
-  done = h.done ++ row ∷ [];
-  elements = h.elements ++ e ∷ [];
-  split = h.split ∙ rw first (sym (append_assoc h.done (row ∷ []) left'));
-  counted = length-append h.done (row ∷ []) ∙ ap (λ n. n + 1) h.counted;
-  stated =
-      rw (map-append (element_of schema bound) h.done (row ∷ []), is)
-      (all_some-push (map (element_of schema bound) h.done) h.elements e h.stated);
-  ends_kept =
-      more-ends ∙ ap (λ (xs : List ℕ). xs ++ e.ends) h.ends_kept
-      ∙ ap (λ (xs : List ℕ). flat_map (λ (x : Element). x.ends) h.elements ++ xs) (sym (append-nil e.ends))
-      ∙ sym (flat_map-append (λ (x : Element). x.ends) h.elements (e ∷ []));
-  words_kept = more-words ∙ rw h.words_kept (columns-push (length schema.columns) h.elements e (row-many-words schema bound row e (row-parts schema bound row e is)));
+-- there are as many columns as the schema has
+pub read-width : (schema : Schema) (bound : ℕ) (rows left : List (List (List ℕ))) (count : ℕ) (endpoints : List ℕ) (columns : List (List ℕ)) → HasRead schema bound rows left count endpoints columns
+    → length columns ≡ length schema.columns
+read-width schema bound rows left count endpoints columns h = rw h.columns_are (length-map-range_with_len (λ k. map (word_in k) h.elements) 0 (length schema.columns))
+
+-- the next row states an element
+pub read-step : (schema : Schema) (bound : ℕ) (rows left left' : List (List (List ℕ))) (row : List (List ℕ)) (count : ℕ) (endpoints endpoints' : List ℕ) (columns columns' : List (List ℕ)) (e : Element)
+    → HasRead schema bound rows left count endpoints columns → left ≡ row ∷ left' → element_of schema bound (count + 1) row ≡ Ok e
+    → endpoints' ≡ endpoints ++ e.endpoints → columns' ≡ with_row columns e.words → HasRead schema bound rows left' (count + 1) endpoints' columns'
+unfolding elements_from
+read-step schema bound rows left left' row count endpoints endpoints' columns columns' e h first is more-endpoints more-words =
+    let facts = row-is schema bound (count + 1) row e is in
+    record {
+      elements = h.elements ++ e ∷ [];
+      known =
+          another (elements_from schema bound 1 rows) e (map (λ p. element_of schema bound p.0 p.1) (enumerate_from (count + 1 + 1) left')) h.elements
+          (rw (first, is) at h.known);
+      counted = sym (length-append h.elements (e ∷ []) ∙ ap (λ n. n + 1) (sym h.counted));
+      few = facts.few;
+      endpoints_are =
+          more-endpoints ∙ ap (λ (xs : List ℕ). xs ++ e.endpoints) h.endpoints_are
+          ∙ ap (λ (xs : List ℕ). flat_map (λ (x : Element). x.endpoints) h.elements ++ xs) (sym (append-nil e.endpoints))
+          ∙ sym (flat_map-append (λ (x : Element). x.endpoints) h.elements (e ∷ []));
+      columns_are = more-words ∙ rw h.columns_are (columns-push (length schema.columns) h.elements e facts.many_words);
+    }
+
+-- the next row has a fault
+pub read-fail : (schema : Schema) (bound : ℕ) (rows left left' : List (List (List ℕ))) (row : List (List ℕ)) (count : ℕ) (endpoints : List ℕ) (columns : List (List ℕ)) (fault : TableFault)
+    → HasRead schema bound rows left count endpoints columns → left ≡ row ∷ left' → Fails (element_of schema bound (count + 1) row) fault → Fails (elements_from schema bound 1 rows) fault
+unfolding elements_from
+read-fail schema bound rows left left' row count endpoints columns fault h first (inl memory) = inl memory
+read-fail schema bound rows left left' row count endpoints columns fault h first (inr is) =
+    inr (fails (elements_from schema bound 1 rows) fault (map (λ p. element_of schema bound p.0 p.1) (enumerate_from (count + 1 + 1) left')) h.elements (rw (first, is) at h.known))
+
+-- no row is left
+pub read-end : (schema : Schema) (bound : ℕ) (rows left : List (List (List ℕ))) (count : ℕ) (endpoints : List ℕ) (columns : List (List ℕ)) → HasRead schema bound rows left count endpoints columns → left ≡ []
+    → AreOf (length schema.columns) (elements_from schema bound 1 rows) endpoints columns count
+unfolding elements_from
+read-end schema bound rows left count endpoints columns h none = record {
+  elements = h.elements;
+  stated = ends (elements_from schema bound 1 rows) h.elements (rw none at h.known);
+  counted = h.counted;
+  few = h.few;
+  endpoints_are = h.endpoints_are;
+  columns_are = h.columns_are;
 }
-
-pub read-width : (schema : Schema) (bound : ℕ) (rows left : List (List (List ℕ))) (count : ℕ) (ends : List ℕ) (words : List (List ℕ)) → HasRead schema bound rows left count ends words → length words ≡ length schema.columns
-read-width schema bound rows left count ends words h = rw h.words_kept (length-map-range_with_len (λ k. map (word_in k) h.elements) 0 (length schema.columns))
-
--- a bad row
-pub read-bad : (schema : Schema) (bound : ℕ) (rows left left' : List (List (List ℕ))) (row : List (List ℕ)) (count : ℕ) (ends : List ℕ) (words : List (List ℕ))
-    → HasRead schema bound rows left count ends words → left ≡ row ∷ left' → element_of schema bound row ≡ None → elements_of schema bound rows ≡ None
-unfolding elements_of
-read-bad schema bound rows left left' row count ends words h first none =
-    let missing : all_some (map (element_of schema bound) rows) ≡ None =
-    rw (h.split, first, map-append (element_of schema bound) h.done (row ∷ left'), none) (one-missing-between (map (element_of schema bound) h.done) (map (element_of schema bound) left')) in
-    by (nat_le (length rows) most_elements) missing
-  where
-    by : (b : Bool) → all_some (map (element_of schema bound) rows) ≡ None → (if b then all_some (map (element_of schema bound) rows) else None) ≡ None
-    by true m = m
-    by false m = refl
-
--- too many rows
-pub read-many : (schema : Schema) (bound : ℕ) (rows left left' : List (List (List ℕ))) (row : List (List ℕ)) (count : ℕ) (ends : List ℕ) (words : List (List ℕ))
-    → HasRead schema bound rows left count ends words → left ≡ row ∷ left' → most_elements ≤ count → elements_of schema bound rows ≡ None
-unfolding elements_of
-read-many schema bound rows left left' row count ends words h first m =
-    let size : length rows ≡ length h.done + length (row ∷ left') = rw (h.split, first) (length-append h.done (row ∷ left')) in
-    let many : most_elements < length rows = omega (arith, h.counted) in
-    by (nat_le (length rows) most_elements) refl many
-  where
-    by : (b : Bool) → nat_le (length rows) most_elements ≡ b → most_elements < length rows → (if b then all_some (map (element_of schema bound) rows) else None) ≡ None
-    by true t many = let low : length rows ≤ most_elements = leb-true (length rows) most_elements t in absurd (omega arith)
-    by false t many = refl
-
-pub read-end : (schema : Schema) (bound : ℕ) (rows left : List (List (List ℕ))) (count : ℕ) (ends : List ℕ) (words : List (List ℕ))
-    → HasRead schema bound rows left count ends words → left ≡ [] → count ≤ most_elements
-    → (elements : List Element) × (elements_of schema bound rows ≡ Some elements) × (count ≡ length rows) × (ends ≡ flat_map (λ e. e.ends) elements) × (words ≡ columns_of (length schema.columns) elements)
-unfolding elements_of
-read-end schema bound rows left count ends words h none m =
-    let all : rows ≡ h.done = h.split ∙ rw none (append-nil h.done) in
-    let size : length rows ≡ count = ap length all ∙ h.counted in
-    let few : length rows ≤ most_elements = omega arith in
-    (h.elements, rw (le-leb (length rows) most_elements few, all) h.stated, sym size, h.ends_kept, h.words_kept)
-
--- a row's fault is the rows' fault
-pub fault-passes : (schema : Schema) (bound : ℕ) (rows left left' : List (List (List ℕ))) (row : List (List ℕ)) (count : ℕ) (ends ends' : List ℕ) (words words' : List (List ℕ)) (fault : TableFault)
-    → HasRead schema bound rows left count ends words → left ≡ row ∷ left' → GrowsByRow (element_of schema bound row) ends ends' words words' (Err fault)
-    → GrowsByRows schema (elements_of schema bound rows) (length rows) ends' words' (Err fault)
-fault-passes schema bound rows left left' row count ends ends' words words' Bad h first grows = read-bad schema bound rows left left' row count ends words h first grows
-fault-passes schema bound rows left left' row count ends ends' words words' Memory h first grows = tt
 
 -- the first record is short, and the others are
 pub first-short : (left left' : List (List (List ℕ))) (row : List (List ℕ)) → left ≡ row ∷ left' → All AreShort left → AreShort row

@@ -1,7 +1,8 @@
 pub mod Schema
 pub mod Table
-pub mod Place
+pub mod Output
+pub mod Cursor
 pub mod Records
 pub mod Inside
-pub mod Reading
-pub mod Output
+pub mod ReadingSteps
+pub mod WritingSteps

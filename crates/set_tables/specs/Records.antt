@@ -1,12 +1,12 @@
--- The records of a table's bytes, read one after the other.
+-- The records of a table's bytes, read one after the other. Only private contracts cite these words.
 use Rattle.std.specs.Prelude.{◌≡◌, ◌^◌, ◌<◌, ◌+◌, ℕ, List, [], ◌∷◌, length, All, Bool, true, false, Option, Some, None, Result, Ok, Err}
 use Rattle.std.specs.Borrow.{Bor}
 use Rattle.csv.specs.Reading.{Ready, default_config, is_flexible, reader_config, reader_state, reader_trim, records_from, source_of}
 use Rattle.csv.specs.declared.parser.State.{State}
 use Rattle.csv.specs.declared.reader.Reader.{Reader}
 use Rattle.csv.specs.declared.reader.Trim.TheVariants as trim
-use Rattle.set_tables.specs.declared.reading.TableFault.{TableFault}
-use Rattle.set_tables.specs.declared.reading.TableFault.TheVariants.{Memory}
+use Rattle.set_tables.specs.declared.faults.TableFault.{TableFault}
+use Rattle.set_tables.specs.declared.faults.TableFault.TheVariants.{Memory}
 
 -- each cell is shorter than 2^32 bytes
 abbrev pub AreShort : List (List ℕ) → Type 0

@@ -1,26 +1,34 @@
 -- What a set's table has to look like, and which sets have such a table.
-use Rattle.std.specs.Prelude.{◌≡◌, ◌≤◌, ◌<◌, ◌^◌, ◌+◌, ℕ, List, [], ◌∷◌, ◌++◌, map, length, All}
+use Rattle.std.specs.Prelude.{◌≡◌, ◌≤◌, ◌<◌, ◌^◌, ℕ, List, ◌++◌, map, length, All, codes, decimal}
 use Rattle.std.specs.List.{range_with_len}
-use Rattle.hypergraph.specs.SetShape.{SetShape, most_ends}
+use Rattle.vocabulary.specs.declared.limits.TheConstants.{MOST_ENDPOINTS}
+use Rattle.hypergraph.specs.SetValue.{SetValue}
+use Rattle.set_tables.specs.declared.schema.Column.{Column}
 use Rattle.set_tables.specs.declared.schema.Schema.{Schema}
 
--- the heading of the endpoints at a place: `p` and the digit of the place
-abbrev pub end_heading : ℕ → List ℕ
-end_heading place = 112 ∷ (48 + place) ∷ []
+-- the heading of the endpoints at a position: `p` and the position in decimal
+abbrev pub endpoint_heading : ℕ → List ℕ
+endpoint_heading position = codes "p" ++ decimal position
 
--- the headings in order: those of the endpoints by their places, and behind them the columns' own
+-- the headings of the endpoints by their positions, and those of columns
+abbrev pub endpoint_headings : ℕ → List (List ℕ)
+endpoint_headings arity = map endpoint_heading (range_with_len 0 arity)
+
+abbrev pub column_headings : List Column → List (List ℕ)
+column_headings columns = map (λ column. column.heading) columns
+
+-- the headings in order: those of the endpoints, and after them the columns' own
 abbrev pub headings : Schema → List (List ℕ)
-headings schema = map end_heading (range_with_len 0 schema.arity) ++ map (λ c. c.heading) schema.columns
+headings schema = endpoint_headings schema.arity ++ column_headings schema.columns
 
--- the schemas that can be read and written: at most 8 endpoints, columns of whole numbers, and texts
--- shorter than 2^32 bytes
+-- the schemas that can be read and written: columns of whole numbers, and texts shorter than 2^32 bytes
 pub record IsSchema (schema : Schema) : Type 0 where
-  pub few_ends : schema.arity ≤ most_ends
-  pub whole_numbers : All (λ c. c.scale ≡ 0) schema.columns
+  pub few_endpoints : schema.arity ≤ MOST_ENDPOINTS
+  pub whole_numbers : All (λ column. column.scale ≡ 0) schema.columns
   pub short_name : length schema.name < 2 ^ 32
-  pub short_headings : All (λ c. length c.heading < 2 ^ 32) schema.columns
+  pub short_headings : All (λ column. length column.heading < 2 ^ 32) schema.columns
 
 -- the set has the endpoints and the columns of the schema
-pub record Fits (schema : Schema) (set : SetShape) : Type 0 where
+pub record Fits (schema : Schema) (set : SetValue) : Type 0 where
   pub same_arity : set.arity ≡ schema.arity
   pub as_many : length set.columns ≡ length schema.columns

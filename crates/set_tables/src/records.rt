@@ -5,7 +5,7 @@ ghost use Rattle.csv.specs.Reading.{default_config, has_failed, records, strip_b
 ghost use Rattle.csv.specs.Records.{fields_of};
 ghost use Rattle.set_tables.specs.Records.{AreShort, ReadsRow, ReadsTable, left_of};
 
-use crate::reading::TableFault;
+use crate::TableFault;
 use csv::{ByteRecord, ErrorKind, Reader, ReaderBuilder};
 use std::alloc::Global;
 use std::marker::Model;
@@ -18,19 +18,19 @@ pub(crate) struct Records<'a> {
 }
 
 impl<'a> Model for Records<'a> {
-    ghost use Rattle.set_tables.specs.Place.{Place};
+    ghost use Rattle.set_tables.specs.Cursor.{Cursor};
 
-    ghost Value = { Place };
+    ghost Value = { Cursor };
 
-    ghost use Rattle.set_tables.specs.Inside.{place_of, IsAtPlace};
+    ghost use Rattle.set_tables.specs.Inside.{cursor_of, IsReading};
 
-    ghost view = { place_of };
+    ghost view = { cursor_of };
 
-    ghost invariant = { IsAtPlace };
+    ghost invariant = { IsReading };
 }
 
 impl<'a> Records<'a> {
-    /// The place before the first record. A byte order mark at the start is no part of it.
+    /// The cursor before the first record. A byte order mark at the start is no part of it.
     pub(crate) fn of(alloc: Global, bytes: &'a [u8]) -> Records<'a>
         requires { length bytes.now < 2 ^ 32 }
         ensures left { result.left ≡ records default_config (strip_bom bytes.now) }

@@ -1,8 +1,10 @@
 //! What a set's table has to look like.
-ghost use Rattle.std.specs.Prelude.{◌≡◌, ◌<◌, ◌≤◌, ◌^◌, ◌+◌, [], length, slice_index_or};
-ghost use Rattle.set_tables.specs.Schema.{IsSchema, end_heading, headings};
+ghost use Rattle.std.specs.Prelude.{◌≡◌, ◌<◌, ◌+◌, [], length, slice_index_or};
+ghost use Rattle.std.specs.Str.{bytes_eq};
+ghost use Rattle.set_tables.specs.Schema.{IsSchema, endpoint_heading, headings};
 
-use ring_words::{L, Text};
+use itoa::Buffer;
+use vocabulary::{L, Text};
 
 /// A set's name, how many endpoints each of its elements has, and its columns in order.
 #[derive(Drop)]
@@ -29,38 +31,31 @@ pub(crate) fn width_of(schema: &Schema) -> usize
     schema.arity as usize + schema.columns.items().len()
 }
 
-/// The heading at a place.
-#[tactic(auto, using(crate::proofs::Headings::headings_width, crate::proofs::Headings::end_heading_at, crate::proofs::Headings::column_heading_at))]
-pub(crate) fn heading_at(schema: &Schema, k: usize) -> &[u8]
+/// Whether the bytes are the heading of a column.
+#[tactic(auto, using(crate::proofs::Headings::endpoint_heading_at, crate::proofs::Headings::column_heading_at))]
+pub(crate) fn is_heading(schema: &Schema, column: usize, bytes: &[u8]) -> bool
     requires schema { IsSchema schema.now }
-    requires within { k < schema.now.arity + length schema.now.columns }
-    ensures value { result.now ≡ slice_index_or (headings schema.now) k [] }
-    ensures short { length result.now < 2 ^ 32 }
+    requires within { column < schema.now.arity + length schema.now.columns }
+    ensures { result ≡ bytes_eq (slice_index_or (headings schema.now) column []) bytes.now }
 {
     let arity = schema.arity as usize;
-    if k < arity {
-        end_heading(k).as_bytes()
+    if column < arity {
+        is_endpoint_heading(column as u32, bytes)
     } else {
-        schema.columns.items()[k - arity]
+        schema.columns.items()[column - arity]
             .heading
-            .as_str()
-            .as_bytes()
+            .has_bytes(bytes)
     }
 }
 
-/// The heading of the endpoints at a place.
-fn end_heading(place: usize) -> &'static str
-    requires { place < 8 }
-    ensures { result.now ≡ end_heading place }
+/// Whether the bytes are the heading of the endpoints at a position.
+fn is_endpoint_heading(position: u32, bytes: &[u8]) -> bool
+    ensures { result ≡ bytes_eq (endpoint_heading position) bytes.now }
 {
-    match place {
-        0 => "p0",
-        1 => "p1",
-        2 => "p2",
-        3 => "p3",
-        4 => "p4",
-        5 => "p5",
-        6 => "p6",
-        _ => "p7",
+    match bytes.split_first() {
+        Some((first, rest)) => {
+            *first == b'p' && Buffer::new().format(position).as_bytes() == rest
+        }
+        None => false,
     }
 }

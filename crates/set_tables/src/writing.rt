@@ -1,172 +1,192 @@
 //! Writing a table.
-ghost use Rattle.std.specs.Prelude.{◌≡◌, ◌≤◌, ◌<◌, ◌+◌, ◌*◌, ◌^◌, ◌++◌, [], length, slice_index_or, vec_len, vec_capacity};
-ghost use Rattle.hypergraph.specs.SetShape.{most_columns, most_ends};
+ghost use Rattle.std.specs.Prelude.{◌≡◌, ◌≤◌, ◌<◌, ◌+◌, ◌*◌, ◌^◌, ◌++◌, ◌∷◌, [], All, length, map, take, slice_index, vec_len, vec_capacity};
+ghost use Rattle.vocabulary.specs.Buffer.{Appends};
+ghost use Rattle.vocabulary.specs.declared.limits.TheConstants.{MOST_COLUMNS, MOST_ENDPOINTS};
+ghost use Rattle.hypergraph.specs.SetValue.{endpoint_at};
 ghost use Rattle.hypergraph.specs.Sets.{set_at};
 ghost use Rattle.ring_words.specs.Cell.{text};
-ghost use Rattle.set_tables.specs.Schema.{Fits, IsSchema, headings};
-ghost use Rattle.set_tables.specs.Output.{Grows, element_cells, line, name_line, separator, table_text};
+ghost use Rattle.set_tables.specs.Schema.{Fits, IsSchema, endpoint_heading, headings};
+ghost use Rattle.set_tables.specs.Output.{element_cells, line, name_line, table_text, element_lines};
+ghost use Rattle.set_tables.specs.WritingSteps.{AreWordsOf, column_headings_text, endpoint_headings_text, endpoints_text, separated, separator, words_text};
 
-use crate::schema::{Schema, heading_at, width_of};
+use crate::schema::{Column, Schema};
 use hypergraph::Sets;
-use ring_words::{cell_len, write_cell};
+use itoa::Buffer;
+use ring_words::write_cell;
+use vocabulary::append;
+use vocabulary::limits::MOST_COLUMNS;
+use vocabulary::marks::{COMMA, LINE_FEED};
 
-/// The length of the text of a set's table, in bytes.
-pub fn text_len(schema: &Schema, sets: &Sets, set: u32) -> usize
-    requires schema { IsSchema schema.now }
-    requires set { set < length sets.now }
-    requires fits { Fits schema.now (set_at sets.now set) }
-    ensures { result ≡ length (table_text schema.now (set_at sets.now set)) }
-{
-    let mut total = 5 + schema.name.as_str().len() + header_len(schema, width_in(sets, set));
-    for element in 0..sets.count(set) {
-        total += element_len(schema, sets, set, element);
-    }
-    total
-}
-
-/// Appends the text of a set's table. The room for it is there, so this takes no memory.
+/// Appends the text of a set's table. The buffer has the capacity for it, which stays as it is: this takes no memory.
 pub fn write_table(schema: &Schema, sets: &Sets, set: u32, to: &mut Vec<u8>)
     requires schema { IsSchema schema.now }
     requires set { set < length sets.now }
     requires fits { Fits schema.now (set_at sets.now set) }
-    requires room { vec_len to.old + length (table_text schema.now (set_at sets.now set)) ≤ vec_capacity to.old }
-    ensures written { to.new.items ≡ to.old.items ++ table_text schema.now (set_at sets.now set) }
-    ensures room_kept { vec_capacity to.old ≤ vec_capacity to.new }
+    requires capacity { vec_len to.old + length (table_text schema.now (set_at sets.now set)) ≤ vec_capacity to.old }
+    ensures { Appends to.old to.new (table_text schema.now (set_at sets.now set)) }
 {
     write_name(schema.name.as_str(), to);
     write_header(schema, to);
-    for element in 0..sets.count(set) {
-        write_element(schema, sets, set, element, to);
+    let words = fetch_columns(sets, set);
+    write_elements(schema, sets, set, &words[..sets.columns(set) as usize], to);
+}
+
+/// The words of each of a set's columns.
+fn fetch_columns(sets: &Sets, set: u32) -> [&[u64]; MOST_COLUMNS as usize]
+    requires { set < length sets.now }
+    ensures { AreWordsOf (set_at sets.now set) (take (length (set_at sets.now set).columns) result) }
+{
+    let mut words: [&[u64]; MOST_COLUMNS as usize] = [&[]; MOST_COLUMNS as usize];
+    for column in 0..sets.columns(set) {
+        words[column as usize] = sets.column(set, column);
     }
+    words
 }
 
 /// Appends the line that names a set.
 fn write_name(name: &str, to: &mut Vec<u8>)
     requires { vec_len to.old + length (name_line name.now) ≤ vec_capacity to.old }
-    ensures { Grows to.old to.new (name_line name.now) }
+    ensures { Appends to.old to.new (name_line name.now) }
 {
     append(b"set ", to);
     append(name.as_bytes(), to);
-    append(b"\n", to);
+    append(&[LINE_FEED], to);
 }
 
 /// Appends the line of headings.
 fn write_header(schema: &Schema, to: &mut Vec<u8>)
     requires schema { IsSchema schema.now }
-    requires room { vec_len to.old + length (line (headings schema.now)) ≤ vec_capacity to.old }
-    ensures { Grows to.old to.new (line (headings schema.now)) }
+    requires capacity { vec_len to.old + length (line (headings schema.now)) ≤ vec_capacity to.old }
+    ensures { Appends to.old to.new (line (headings schema.now)) }
 {
-    for k in 0..width_of(schema) {
-        separate(k, to);
-        append(heading_at(schema, k), to);
+    write_endpoint_headings(schema.arity, to);
+    write_column_headings(schema.arity, schema.columns.items(), to);
+    append(&[LINE_FEED], to);
+}
+
+/// Appends the headings of so many endpoints, as a line begins with them.
+fn write_endpoint_headings(arity: u32, to: &mut Vec<u8>)
+    requires { vec_len to.old + length (endpoint_headings_text arity) ≤ vec_capacity to.old }
+    ensures { Appends to.old to.new (endpoint_headings_text arity) }
+{
+    for position in 0..arity {
+        write_endpoint_heading(position, to);
     }
-    append(b"\n", to);
+}
+
+/// Appends the heading of the endpoints at a position, and before it what parts it from the last.
+fn write_endpoint_heading(position: u32, to: &mut Vec<u8>)
+    requires { vec_len to.old + length (separated position (endpoint_heading position)) ≤ vec_capacity to.old }
+    ensures { Appends to.old to.new (separated position (endpoint_heading position)) }
+{
+    separate(position as usize, to);
+    append(b"p", to);
+    append(Buffer::new().format(position).as_bytes(), to);
+}
+
+/// Appends the headings of the columns, as a line goes on with them after so many endpoints.
+fn write_column_headings(arity: u32, columns: &[Column], to: &mut Vec<u8>)
+    requires few { arity ≤ MOST_ENDPOINTS }
+    requires capacity { vec_len to.old + length (column_headings_text arity columns.now) ≤ vec_capacity to.old }
+    ensures { Appends to.old to.new (column_headings_text arity columns.now) }
+{
+    for (k, column) in columns.iter().enumerate() {
+        write_heading(arity as usize + k, column.heading.as_str(), to);
+    }
+}
+
+/// Appends the heading of a column, and before it what parts it from the last.
+fn write_heading(column: usize, heading: &str, to: &mut Vec<u8>)
+    requires { vec_len to.old + length (separated column heading.now) ≤ vec_capacity to.old }
+    ensures { Appends to.old to.new (separated column heading.now) }
+{
+    separate(column, to);
+    append(heading.as_bytes(), to);
+}
+
+/// Appends the lines of the elements.
+fn write_elements(schema: &Schema, sets: &Sets, set: u32, words: &[&[u64]], to: &mut Vec<u8>)
+    requires schema { IsSchema schema.now }
+    requires set { set < length sets.now }
+    requires fits { Fits schema.now (set_at sets.now set) }
+    requires words { AreWordsOf (set_at sets.now set) words.now }
+    requires capacity { vec_len to.old + length (element_lines schema.now (set_at sets.now set)) ≤ vec_capacity to.old }
+    ensures { Appends to.old to.new (element_lines schema.now (set_at sets.now set)) }
+{
+    for element in 0..sets.count(set) {
+        write_element(schema, sets, set, words, element, to);
+    }
 }
 
 /// Appends the line of an element.
-fn write_element(schema: &Schema, sets: &Sets, set: u32, element: u32, to: &mut Vec<u8>)
+fn write_element(
+    schema: &Schema,
+    sets: &Sets,
+    set: u32,
+    words: &[&[u64]],
+    element: u32,
+    to: &mut Vec<u8>,
+)
     requires schema { IsSchema schema.now }
     requires set { set < length sets.now }
     requires fits { Fits schema.now (set_at sets.now set) }
+    requires words { AreWordsOf (set_at sets.now set) words.now }
     requires element { element < (set_at sets.now set).count }
-    requires room { vec_len to.old + length (line (element_cells schema.now (set_at sets.now set) element)) ≤ vec_capacity to.old }
-    ensures { Grows to.old to.new (line (element_cells schema.now (set_at sets.now set) element)) }
+    requires capacity { vec_len to.old + length (line (element_cells schema.now (set_at sets.now set) element)) ≤ vec_capacity to.old }
+    ensures { Appends to.old to.new (line (element_cells schema.now (set_at sets.now set) element)) }
 {
-    for k in 0..width_in(sets, set) {
-        separate(k as usize, to);
-        let (scale, word) = cell_at(schema, sets, set, element, k);
-        write_cell(scale, word, to);
+    write_endpoints(schema.arity, sets, set, element, to);
+    write_words(schema.arity, schema.columns.items(), words, element, to);
+    append(&[LINE_FEED], to);
+}
+
+/// Appends the endpoints of an element, as a line begins with them.
+fn write_endpoints(arity: u32, sets: &Sets, set: u32, element: u32, to: &mut Vec<u8>)
+    requires set { set < length sets.now }
+    requires arity { arity ≡ (set_at sets.now set).arity }
+    requires element { element < (set_at sets.now set).count }
+    requires capacity { vec_len to.old + length (endpoints_text arity (set_at sets.now set) element) ≤ vec_capacity to.old }
+    ensures { Appends to.old to.new (endpoints_text arity (set_at sets.now set) element) }
+{
+    for position in 0..arity {
+        let endpoint = sets.end(set, element, position);
+        write_word(position as usize, 0, u64::from(endpoint), to);
     }
-    append(b"\n", to);
 }
 
-/// How many cells the line of an element has.
-fn width_in(sets: &Sets, set: u32) -> u32
-    requires { set < length sets.now }
-    ensures value { result ≡ (set_at sets.now set).arity + length (set_at sets.now set).columns }
-    ensures bound { result ≤ most_ends + most_columns }
+/// Appends the words of an element, as a line goes on with them after so many endpoints.
+fn write_words(arity: u32, columns: &[Column], words: &[&[u64]], element: u32, to: &mut Vec<u8>)
+    requires few { arity ≤ MOST_ENDPOINTS }
+    requires whole_numbers { All (λ column. column.scale ≡ 0) columns.now }
+    requires as_many { length words.now ≡ length columns.now }
+    requires element { All (λ column. element < length column.now) words.now }
+    requires capacity { vec_len to.old + length (words_text arity columns.now (map (λ column. column.now) words.now) element) ≤ vec_capacity to.old }
+    ensures { Appends to.old to.new (words_text arity columns.now (map (λ column. column.now) words.now) element) }
 {
-    sets.arity(set) + sets.columns(set)
+    for (k, column) in columns.iter().enumerate() {
+        let word = words[k][element as usize];
+        write_word(arity as usize + k, column.scale, word, to);
+    }
 }
 
-/// The scale and the word of an element's cell at a place of its line.
+/// Appends the text of a word at a scale as the cell of a column, and before it what parts it from the last.
 #[inline]
-#[tactic(auto, using(crate::proofs::LinesWritten::end_cell_at, crate::proofs::LinesWritten::word_cell_at))]
-fn cell_at(schema: &Schema, sets: &Sets, set: u32, element: u32, k: u32) -> (u32, u64)
-    requires schema { IsSchema schema.now }
-    requires set { set < length sets.now }
-    requires fits { Fits schema.now (set_at sets.now set) }
-    requires element { element < (set_at sets.now set).count }
-    requires within { k < schema.now.arity + length schema.now.columns }
-    ensures cell { slice_index_or (element_cells schema.now (set_at sets.now set) element) k [] ≡ text result.0 result.1 }
-    ensures whole_number { result.0 ≡ 0 }
+fn write_word(column: usize, scale: u32, word: u64, to: &mut Vec<u8>)
+    requires whole_number { scale ≡ 0 }
+    requires capacity { vec_len to.old + length (separated column (text scale word)) ≤ vec_capacity to.old }
+    ensures { Appends to.old to.new (separated column (text scale word)) }
 {
-    if k < schema.arity {
-        (0, u64::from(sets.end(set, element, k)))
-    } else {
-        let column = k - schema.arity;
-        let scale = schema.columns.items()[column as usize].scale;
-        (scale, sets.column(set, column)[element as usize])
-    }
+    separate(column, to);
+    write_cell(scale, word, to);
 }
 
-/// Appends what stands before the cell at a place of a line: a comma, but for the first.
-fn separate(k: usize, to: &mut Vec<u8>)
-    requires { vec_len to.old + length (separator k) ≤ vec_capacity to.old }
-    ensures { Grows to.old to.new (separator k) }
+/// Appends what stands before the cell of a column: a comma, but for the first.
+#[inline]
+fn separate(column: usize, to: &mut Vec<u8>)
+    requires { vec_len to.old + length (separator column) ≤ vec_capacity to.old }
+    ensures { Appends to.old to.new (separator column) }
 {
-    if k != 0 {
-        append(b",", to);
+    if column != 0 {
+        append(&[COMMA], to);
     }
-}
-
-/// Appends bytes for which there is room.
-fn append(bytes: &[u8], to: &mut Vec<u8>)
-    requires { vec_len to.old + length bytes.now ≤ vec_capacity to.old }
-    ensures { Grows to.old to.new bytes.now }
-{
-    match to.extend_from_slice(bytes) {
-        Ok(()) => {}
-        Err(_) => unreachable!(),
-    }
-}
-
-/// The length of the line of headings, of which there are so many.
-fn header_len(schema: &Schema, width: u32) -> usize
-    requires schema { IsSchema schema.now }
-    requires width { width ≡ schema.now.arity + length schema.now.columns }
-    requires few { width ≤ most_ends + most_columns }
-    ensures value { result ≡ length (line (headings schema.now)) }
-    ensures bound { result ≤ 1 + 72 * 2 ^ 32 }
-{
-    let mut total = 1;
-    for k in 0..width as usize {
-        total += separator_len(k) + heading_at(schema, k).len();
-    }
-    total
-}
-
-/// The length of the line of an element.
-fn element_len(schema: &Schema, sets: &Sets, set: u32, element: u32) -> usize
-    requires schema { IsSchema schema.now }
-    requires set { set < length sets.now }
-    requires fits { Fits schema.now (set_at sets.now set) }
-    requires element { element < (set_at sets.now set).count }
-    ensures value { result ≡ length (line (element_cells schema.now (set_at sets.now set) element)) }
-    ensures bound { result ≤ 1 + 72 * 22 }
-{
-    let mut total = 1;
-    for k in 0..width_in(sets, set) {
-        let (scale, word) = cell_at(schema, sets, set, element, k);
-        total += separator_len(k as usize) + cell_len(scale, word);
-    }
-    total
-}
-
-/// The length of what stands before the cell at a place of a line.
-fn separator_len(k: usize) -> usize
-    ensures value { result ≡ length (separator k) }
-    ensures bound { result ≤ 1 }
-{
-    if k == 0 { 0 } else { 1 }
 }

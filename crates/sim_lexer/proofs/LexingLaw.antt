@@ -1,12 +1,16 @@
--- The law of the definition: a text is its tokens' bytes with gaps between.
+-- The laws of the definition: a text is its tokens' bytes with gaps between, each token is the longest, and what a reader can rely on.
 use Rattle.std.proofs.Common.{◌≡◌, ℕ, zero, suc, ◌+◌, ◌-◌, ◌<◌, ◌≤◌, Bool, true, false, cond, ◌&&◌, List, [], ◌∷◌, ◌++◌, append_assoc, length, get_or, take, drop, Option, Some, None, Result, Ok, Err, refl, sym, subst, ap, ◌∙◌, arith, inl, inr}
-use Rattle.std.specs.Prelude.{All, ◌⊎◌, slice_range, position, bytes_eq, nat_lt, nat_eq, codes, Contains, slice_index_or, option_map}
+use Rattle.std.specs.Prelude.{All, ◌⊎◌, ◌↔◌, slice_range, position, bytes_eq, nat_lt, nat_eq, codes, Contains, slice_index_or, option_map}
 use Rattle.std.specs.List.{list_all, starts_with, prefix_len, position_or_len}
 use Rattle.std.specs.Char.{is_ascii_digit}
 use Rattle.std.proofs.lemmas.Slice.Eq.{bytes_eq-Decides, starts_is}
 use Rattle.std.proofs.lemmas.Bool.{eqb-true, cases_lt, lt-ltb, le-ltb, ltb-true}
 use Rattle.std.proofs.lemmas.Bool.Decides.{Decides-eqb}
+use Rattle.std.proofs.lemmas.List.Elements.{All-cons, All-nil}
 use Rattle.std.proofs.Math.Seq.{take-add}
+use Rattle.vocabulary.specs.Answers.{◌>>=◌}
+use Rattle.vocabulary.specs.declared.limits.TheConstants.{MOST_TOKENS, MOST_NAME_BYTES}
+use Rattle.vocabulary.specs.declared.marks.TheConstants.{LINE_FEED, POINT}
 use Rattle.sim_lexer.specs.declared.token.Token.{Token}
 use Rattle.sim_lexer.specs.declared.token.LexFault.{LexFault}
 use Rattle.sim_lexer.specs.declared.token.LexFault.TheVariants.{LongName, TooMany}
@@ -14,27 +18,29 @@ use Rattle.sim_lexer.specs.declared.token.TokenKind.{TokenKind}
 use Rattle.sim_lexer.specs.declared.token.TokenKind.TheVariants.{Name, Number, Keyword, Symbol, End}
 use Rattle.std.proofs.lemmas.List.{length-take-le, length-append, length-drop, take_at}
 use Rattle.std.proofs.lemmas.List.Sums.{prefix_len-le-length, passes_at_first, fails_before_first}
-use Rattle.sim_lexer.specs.Tokens.{gap_len, comment_len, is_blank, is_percent, is_line_feed, is_one_line, IsGap, nothing, blank, comment, IsLastGap, closed, left_open, Separates, Spells, IsWord, IsNumber, AreDigits, digits_len, is_name, is_letter, is_name_byte, name_len, number_len, kind_of_keyword, word_kind, keywords, symbols, symbol_at, symbol_token_at, token_at, token_after, placed, line_at, IsSpelled, IsCut, depth_behind, tokens_from, tokens, ◌>>=◌, is_end}
+use Rattle.sim_lexer.specs.Tokens.{byte, gap_len, comment_len, is_blank, is_percent, is_line_feed, is_one_line, IsGap, nothing, blank, comment, IsLastGap, closed, left_open, Separates, Spells, IsWord, IsNumber, AreDigits, digits_len, is_name, is_letter, is_name_byte, name_len, number_len, kind_of_keyword, word_kind, keywords, symbols, symbol_at, symbol_token_at, token_at, token_after, located, line_at, IsSpelled, IsLongest, LiesIn, EndsOnce, IsCut, depth_after, tokens_from, tokens, is_end}
+use Rattle.sim_lexer.proofs.Lexing.{found_lies}
+use Rattle.sim_lexer.proofs.LongestTokens.{IsLexeme, IsLongestAt, lexeme_from_spelled, word_is_longest, number_is_longest, symbol_is_longest}
 
--- a token lies within a text of so many bytes
-abbrev LiesWithin : ℕ → Token → Type 0
-LiesWithin size token = (token.from ≤ token.to) × (token.to ≤ size)
+-- the byte with which a comment begins
+abbrev percent : ℕ
+percent = byte (codes "%")
 
 -- ---- gaps
 
-take-one_more : (n b : ℕ) (text : List ℕ) → take (1 + n) (b ∷ text) ≡ b ∷ take n text
-take-one_more n b text = ap (λ k. take k (b ∷ text)) (let e : 1 + n ≡ suc n = omega arith in e)
+take-first : (n b : ℕ) (text : List ℕ) → take (1 + n) (b ∷ text) ≡ b ∷ take n text
+take-first n b text = ap (λ k. take k (b ∷ text)) (let e : 1 + n ≡ suc n = omega arith in e)
 
--- the first n bytes are a gap, and a closed one where the text goes on behind them
+-- the first n bytes are a gap, and a closed one where the text goes on after them
 pub record GapAt (text : List ℕ) (n : ℕ) : Type 0 where
   pub within : n ≤ length text
   pub last : IsLastGap (take n text)
   pub inner : n < length text → IsGap (take n text)
 
--- the first n bytes end a comment: its words alone up to the text's end, or with a line feed and a gap behind it
+-- the first n bytes end a comment: its words alone up to the text's end, or with a line feed and a gap after it
 record ClosedAt (text : List ℕ) (n : ℕ) (words : List ℕ) : Type 0 where
   gap : List ℕ
-  parts : take n text ≡ words ++ 10 ∷ gap
+  parts : take n text ≡ words ++ LINE_FEED ∷ gap
   last : IsLastGap gap
   inner : n < length text → IsGap gap
 
@@ -48,39 +54,39 @@ blank_before : (b : ℕ) (gap : List ℕ) → is_blank b ≡ true → IsLastGap 
 blank_before b _ e (closed gap h) = closed (b ∷ gap) (blank b gap e h)
 blank_before b _ e (left_open gap words h o) = left_open (b ∷ gap) words (blank b gap e h) o
 
-comment_before : (words gap : List ℕ) → is_one_line words ≡ true → IsLastGap gap → IsLastGap (37 ∷ words ++ 10 ∷ gap)
+comment_before : (words gap : List ℕ) → is_one_line words ≡ true → IsLastGap gap → IsLastGap (percent ∷ words ++ LINE_FEED ∷ gap)
 comment_before words _ e (closed gap h) = closed _ (comment words gap e h)
 comment_before words _ e (left_open gap more h o) =
-    subst IsLastGap (append_assoc (37 ∷ words) (10 ∷ gap) (37 ∷ more)) (left_open (37 ∷ words ++ 10 ∷ gap) more (comment words gap e h) o)
+    subst IsLastGap (append_assoc (percent ∷ words) (LINE_FEED ∷ gap) (percent ∷ more)) (left_open (percent ∷ words ++ LINE_FEED ∷ gap) more (comment words gap e h) o)
 
 blank_step : (b : ℕ) (text : List ℕ) → is_blank b ≡ true → GapAt text (gap_len text) → GapAt (b ∷ text) (1 + gap_len text)
 blank_step b text e h =
-    let front = take-one_more (gap_len text) b text in
+    let prefix = take-first (gap_len text) b text in
     record {
       within = let w = h.within in omega arith;
-      last = rw front (blank_before b (take (gap_len text) text) e h.last);
-      inner = λ lt. rw front (blank b (take (gap_len text) text) e (h.inner (omega arith)));
+      last = rw prefix (blank_before b (take (gap_len text) text) e h.last);
+      inner = λ lt. rw prefix (blank b (take (gap_len text) text) e (h.inner (omega arith)));
     }
 
-percent_step : (b : ℕ) (text : List ℕ) → b ≡ 37 → CommentAt text (comment_len text) → GapAt (b ∷ text) (1 + comment_len text)
+percent_step : (b : ℕ) (text : List ℕ) → b ≡ percent → CommentAt text (comment_len text) → GapAt (b ∷ text) (1 + comment_len text)
 percent_step b text e h = go h.ends
   where
     n : ℕ
     n = comment_len text
 
-    front : take (1 + n) (b ∷ text) ≡ 37 ∷ take n text
-    front = take-one_more n b text ∙ ap (λ k. k ∷ take n text) e
+    prefix : take (1 + n) (b ∷ text) ≡ percent ∷ take n text
+    prefix = take-first n b text ∙ ap (λ k. k ∷ take n text) e
 
     go : ClosedAt text n h.words ⊎ ((take n text ≡ h.words) × (n ≡ length text)) → GapAt (b ∷ text) (1 + n)
     go (inl c) =
-        let whole : take (1 + n) (b ∷ text) ≡ 37 ∷ h.words ++ 10 ∷ c.gap = front ∙ ap (λ (t : List ℕ). 37 ∷ t) c.parts in
+        let whole : take (1 + n) (b ∷ text) ≡ percent ∷ h.words ++ LINE_FEED ∷ c.gap = prefix ∙ ap (λ (t : List ℕ). percent ∷ t) c.parts in
         record {
           within = let w = h.within in omega arith;
           last = rw whole (comment_before h.words c.gap h.one_line c.last);
           inner = λ lt. rw whole (comment h.words c.gap h.one_line (c.inner (omega arith)));
         }
     go (inr c) =
-        let whole : take (1 + n) (b ∷ text) ≡ 37 ∷ h.words = front ∙ ap (λ (t : List ℕ). 37 ∷ t) c.0 in
+        let whole : take (1 + n) (b ∷ text) ≡ percent ∷ h.words = prefix ∙ ap (λ (t : List ℕ). percent ∷ t) c.0 in
         record {
           within = let w = h.within in omega arith;
           last = rw whole (left_open [] h.words nothing h.one_line);
@@ -102,20 +108,20 @@ comment_step b text e h =
     go : ClosedAt text n h.words ⊎ ((take n text ≡ h.words) × (n ≡ length text)) → ClosedAt (b ∷ text) (1 + n) (b ∷ h.words) ⊎ ((take (1 + n) (b ∷ text) ≡ b ∷ h.words) × (1 + n ≡ length (b ∷ text)))
     go (inl c) = inl (record {
       gap = c.gap;
-      parts = take-one_more n b text ∙ ap (λ (t : List ℕ). b ∷ t) c.parts;
+      parts = take-first n b text ∙ ap (λ (t : List ℕ). b ∷ t) c.parts;
       last = c.last;
       inner = λ lt. c.inner (omega arith);
     })
-    go (inr c) = inr (take-one_more n b text ∙ ap (λ (t : List ℕ). b ∷ t) c.0, omega (arith, c.1))
+    go (inr c) = inr (take-first n b text ∙ ap (λ (t : List ℕ). b ∷ t) c.0, omega (arith, c.1))
 
-feed_step : (b : ℕ) (text : List ℕ) → b ≡ 10 → GapAt text (gap_len text) → CommentAt (b ∷ text) (1 + gap_len text)
+feed_step : (b : ℕ) (text : List ℕ) → b ≡ LINE_FEED → GapAt text (gap_len text) → CommentAt (b ∷ text) (1 + gap_len text)
 feed_step b text e h = record {
   within = let w = h.within in omega arith;
   words = [];
   one_line = refl;
   ends = inl (record {
     gap = take (gap_len text) text;
-    parts = take-one_more (gap_len text) b text ∙ ap (λ k. k ∷ take (gap_len text) text) e;
+    parts = take-first (gap_len text) b text ∙ ap (λ k. k ∷ take (gap_len text) text) e;
     last = h.last;
     inner = λ lt. h.inner (omega arith);
   });
@@ -124,12 +130,12 @@ feed_step b text e h = record {
 gap_cases : (b : ℕ) (text : List ℕ) → GapAt text (gap_len text) → CommentAt text (comment_len text) → (r s : Bool) → is_blank b ≡ r → is_percent b ≡ s
     → GapAt (b ∷ text) (cond r (1 + gap_len text) (cond s (1 + comment_len text) 0))
 gap_cases b text g h true s e f = blank_step b text e g
-gap_cases b text g h false true e f = percent_step b text (eqb-true b 37 f) h
+gap_cases b text g h false true e f = percent_step b text (eqb-true b percent f) h
 gap_cases b text g h false false e f = record { within = omega arith; last = closed [] nothing; inner = λ lt. nothing }
 
 comment_cases : (b : ℕ) (text : List ℕ) → GapAt text (gap_len text) → CommentAt text (comment_len text) → (r : Bool) → is_line_feed b ≡ r
     → CommentAt (b ∷ text) (cond r (1 + gap_len text) (1 + comment_len text))
-comment_cases b text g h true e = feed_step b text (eqb-true b 10 e) g
+comment_cases b text g h true e = feed_step b text (eqb-true b LINE_FEED e) g
 comment_cases b text g h false e = comment_step b text e h
 
 mutual
@@ -141,20 +147,20 @@ mutual
   comment_at [] = record { within = omega arith; words = []; one_line = refl; ends = inr (refl, refl) }
   comment_at (b ∷ text) = comment_cases b text (gap_at text) (comment_at text) (is_line_feed b) refl
 
--- ---- fronts of a text
+-- ---- prefixes of a text
 
 prefix_head : (p : ℕ → Bool) (b : ℕ) (text : List ℕ) → p b ≡ true → take (prefix_len p (b ∷ text)) (b ∷ text) ≡ b ∷ take (prefix_len p text) text
-prefix_head p b text e = rw e (take-one_more (prefix_len p text) b text)
+prefix_head p b text e = rw e (take-first (prefix_len p text) b text)
 
 prefix_all : (p : ℕ → Bool) (text : List ℕ) → list_all p (take (prefix_len p text) text) ≡ true
 prefix_all p [] = refl
 prefix_all p (b ∷ text) = go (p b) refl (prefix_all p text)
   where
     go : (r : Bool) → p b ≡ r → list_all p (take (prefix_len p text) text) ≡ true → list_all p (take (cond r (1 + prefix_len p text) 0) (b ∷ text)) ≡ true
-    go true e h = ap (list_all p) (take-one_more (prefix_len p text) b text) ∙ rw e h
+    go true e h = ap (list_all p) (take-first (prefix_len p text) b text) ∙ rw e h
     go false e h = refl
 
--- the longest front of digits, where there is one
+-- the longest prefix of digits, where there is one
 digits_at : (text : List ℕ) → 0 < digits_len text → AreDigits (take (digits_len text) text)
 digits_at text more = (omega (arith, length-take-le (digits_len text) text (prefix_len-le-length is_ascii_digit text)), prefix_all is_ascii_digit text)
 
@@ -182,9 +188,10 @@ position_some p xs k e =
 
 pub record TokenAt (text : List ℕ) (kind : TokenKind) (size : ℕ) : Type 0 where
   pub within : size ≤ length text
-  pub spelled : (is_name kind ≡ true → size ≤ 64) → Spells kind (take size text)
+  pub spelled : (is_name kind ≡ true → size ≤ MOST_NAME_BYTES) → Spells kind (take size text)
   pub at_end : kind ≡ End → length text ≡ 0
   pub inside : (kind ≡ End → ⊥) → 0 < length text
+  pub longest : IsLongestAt text size
 
 -- what a word spells, in a list of keywords
 abbrev WordSpells : List (List ℕ) → TokenKind → List ℕ → Type 0
@@ -200,7 +207,7 @@ word_spells words word (Some k) e =
     let h = position_some (λ w. bytes_eq w word) words k e in
     (h.0, (bytes_eq-Decides (get_or words k []) word).0 (h.1 []))
 
-spells_word : (kind : TokenKind) (word : List ℕ) → IsWord word → WordSpells keywords kind word → (is_name kind ≡ true → length word ≤ 64) → Spells kind word
+spells_word : (kind : TokenKind) (word : List ℕ) → IsWord word → WordSpells keywords kind word → (is_name kind ≡ true → length word ≤ MOST_NAME_BYTES) → Spells kind word
 spells_word Name word h w short = (h, short refl, w)
 spells_word (Keyword n) word h w short = w
 spells_word Number word h w short = absurd w
@@ -225,13 +232,14 @@ word_at b rest e =
       spelled = λ short. spells_word (word_kind word) word is_word (word_spells keywords word found refl) (λ name. let h = short name in omega arith);
       at_end = λ ends. absurd (no_end found ends);
       inside = λ other. omega arith;
+      longest = word_is_longest b rest e;
     }
 
--- what a point at a place says of the byte there
-point_at : (text : List ℕ) (place : ℕ) → starts_with nat_eq (drop place text) (codes ".") ≡ true → take 1 (drop place text) ≡ 46 ∷ []
-point_at text place e =
-    let after : List ℕ = drop place text in
-    let parts : after ≡ 46 ∷ drop 1 after = (starts_is Decides-eqb after (codes ".") (starts_with nat_eq after (codes ".")) refl).0 e in
+-- what a point at an offset says of the byte there
+point_at : (text : List ℕ) (offset : ℕ) → starts_with nat_eq (drop offset text) (codes ".") ≡ true → take 1 (drop offset text) ≡ POINT ∷ []
+point_at text offset e =
+    let after : List ℕ = drop offset text in
+    let parts : after ≡ POINT ∷ drop 1 after = (starts_is Decides-eqb after (codes ".") (starts_with nat_eq after (codes ".")) refl).0 e in
     ap (λ (t : List ℕ). take 1 t) parts
 
 module _ (text : List ℕ) (more : 0 < digits_len text) where
@@ -250,9 +258,9 @@ module _ (text : List ℕ) (more : 0 < digits_len text) where
       let some_decimals : 0 < decimals_len = ltb-true 0 decimals_len some in
       let bound = prefix_len-le-length is_ascii_digit (drop (whole_len + 1) text) in
       let size = length-drop (whole_len + 1) text in
-      let parts : take (whole_len + 1 + decimals_len) text ≡ take whole_len text ++ 46 ∷ decimals =
+      let parts : take (whole_len + 1 + decimals_len) text ≡ take whole_len text ++ POINT ∷ decimals =
       take-add (whole_len + 1) decimals_len text ∙ ap (λ (t : List ℕ). t ++ decimals) (take-add whole_len 1 text ∙ ap (λ (t : List ℕ). take whole_len text ++ t) (point_at text whole_len point))
-      ∙ append_assoc (take whole_len text) (46 ∷ []) decimals in
+      ∙ append_assoc (take whole_len text) (POINT ∷ []) decimals in
       (omega arith, inr (take whole_len text, decimals, digits_at text more, digits_at (drop (whole_len + 1) text) some_decimals, parts))
   number_parts true false point some = (prefix_len-le-length is_ascii_digit text, inl (digits_at text more))
   number_parts false s point some = (prefix_len-le-length is_ascii_digit text, inl (digits_at text more))
@@ -265,9 +273,9 @@ number_at : (b : ℕ) (rest : List ℕ) → is_ascii_digit b ≡ true → TokenA
 number_at b rest e =
     let more : 0 < digits_len (b ∷ rest) = rw e (omega arith) in
     let h = number_is (b ∷ rest) more in
-    record { within = h.0; spelled = λ short. h.1; at_end = λ ends. absurd cc; inside = λ other. omega arith }
+    record { within = h.0; spelled = λ short. h.1; at_end = λ ends. absurd cc; inside = λ other. omega arith; longest = number_is_longest b rest e }
 
--- the spelling at the first place of a list with which a text begins
+-- the spelling at the first offset of a list with which a text begins
 spelling_at : (spellings : List (List ℕ)) (text : List ℕ) (n : ℕ) → position (starts_with nat_eq text) spellings ≡ Some n
     → (n < length spellings) × (length (get_or spellings n []) ≤ length text) × (get_or spellings n [] ≡ take (length (get_or spellings n [])) text)
 spelling_at spellings text n e =
@@ -276,39 +284,41 @@ spelling_at spellings text n e =
     let parts : text ≡ s ++ drop (length s) text = (starts_is Decides-eqb text s (starts_with nat_eq text s) refl).0 (h.1 []) in
     (h.0, omega (arith, simp length-append at (ap length parts)), sym (ap (take (length s)) parts ∙ take_at s (drop (length s) text) (length s) refl))
 
-symbol_found : (text : List ℕ) (n : ℕ) → symbol_at text ≡ Some n → 0 < length text → TokenAt text (Symbol n) (length (slice_index_or symbols n []))
-symbol_found text n e more =
-    let h = spelling_at symbols text n e in
-    record { within = h.1; spelled = λ short. (h.0, h.2); at_end = λ ends. absurd cc; inside = λ other. more }
-
 of_some : {A : Type 0} (x y : A) → Some x ≡ Some y → x ≡ y
 of_some x y e = cc
 
-symbol_case : (text : List ℕ) (o : Option ℕ) (p : TokenKind × ℕ) → 0 < length text → symbol_at text ≡ o → option_map (λ n. (Symbol n, length (slice_index_or symbols n []))) o ≡ Some p → TokenAt text p.0 p.1
-symbol_case text None p more at e = absurd cc
-symbol_case text (Some n) p more at e =
-    subst (λ (q : TokenKind × ℕ). TokenAt text q.0 q.1) (of_some (Symbol n, length (slice_index_or symbols n [])) p e) (symbol_found text n at more)
+module _ (b : ℕ) (rest : List ℕ) (no_letter : is_letter b ≡ false) (no_digit : is_ascii_digit b ≡ false) where
+  symbol_found : (n : ℕ) → symbol_at (b ∷ rest) ≡ Some n → TokenAt (b ∷ rest) (Symbol n) (length (slice_index_or symbols n []))
+  symbol_found n e =
+      let h = spelling_at symbols (b ∷ rest) n e in
+      record { within = h.1; spelled = λ short. (h.0, h.2); at_end = λ ends. absurd cc; inside = λ other. omega arith; longest = symbol_is_longest b rest n no_letter no_digit e }
+
+  symbol_case : (o : Option ℕ) (p : TokenKind × ℕ) → symbol_at (b ∷ rest) ≡ o → option_map (λ n. (Symbol n, length (slice_index_or symbols n []))) o ≡ Some p → TokenAt (b ∷ rest) p.0 p.1
+  symbol_case None p at e = absurd cc
+  symbol_case (Some n) p at e =
+      subst (λ (q : TokenKind × ℕ). TokenAt (b ∷ rest) q.0 q.1) (of_some (Symbol n, length (slice_index_or symbols n [])) p e) (symbol_found n at)
 
 first_case : (b : ℕ) (rest : List ℕ) (p : TokenKind × ℕ) (r s : Bool) → is_letter b ≡ r → is_ascii_digit b ≡ s
     → cond r (Some (word_kind (take (name_len (b ∷ rest)) (b ∷ rest)), name_len (b ∷ rest))) (cond s (Some (Number, number_len (b ∷ rest))) (symbol_token_at (b ∷ rest))) ≡ Some p
     → TokenAt (b ∷ rest) p.0 p.1
 first_case b rest p true s letter digit e = subst (λ (q : TokenKind × ℕ). TokenAt (b ∷ rest) q.0 q.1) (of_some (word_kind (take (name_len (b ∷ rest)) (b ∷ rest)), name_len (b ∷ rest)) p e) (word_at b rest letter)
 first_case b rest p false true letter digit e = subst (λ (q : TokenKind × ℕ). TokenAt (b ∷ rest) q.0 q.1) (of_some (Number, number_len (b ∷ rest)) p e) (number_at b rest digit)
-first_case b rest p false false letter digit e = symbol_case (b ∷ rest) (symbol_at (b ∷ rest)) p (omega arith) refl e
+first_case b rest p false false letter digit e = symbol_case b rest letter digit (symbol_at (b ∷ rest)) p refl e
 
 pub token_is : (text : List ℕ) (p : TokenKind × ℕ) → token_at text ≡ Some p → TokenAt text p.0 p.1
 unfolding token_at
 token_is [] p e =
-    subst (λ (q : TokenKind × ℕ). TokenAt [] q.0 q.1) (of_some (End, 0) p e) (record { within = omega arith; spelled = λ short. refl; at_end = λ ends. refl; inside = λ other. absurd (other refl) })
+    subst (λ (q : TokenKind × ℕ). TokenAt [] q.0 q.1) (of_some (End, 0) p e) (record { within = omega arith; spelled = λ short. refl; at_end = λ ends. refl; inside = λ other. absurd (other refl); longest = λ n lt le. absurd (omega arith) })
 token_is (b ∷ rest) p e = first_case b rest p (is_letter b) (is_ascii_digit b) refl refl e
 
--- ---- the token behind a gap
+-- ---- the token after a gap
 
-pub record CutAt (text : List ℕ) (place : ℕ) (token : Token) : Type 0 where
-  pub order : place ≤ token.from
-  pub within : LiesWithin (length text) token
-  pub separates : Separates token.kind (slice_range text place token.from)
-  pub spelled : (is_name token.kind ≡ true → token.to - token.from ≤ 64) → IsSpelled text token
+pub record CutAt (text : List ℕ) (offset : ℕ) (token : Token) : Type 0 where
+  pub order : offset ≤ token.from
+  pub lies : LiesIn text token
+  pub separates : Separates token.kind (slice_range text offset token.from)
+  pub spelled : (is_name token.kind ≡ true → token.to - token.from ≤ MOST_NAME_BYTES) → IsSpelled text token
+  pub longest : IsLongest text token
   pub at_end : token.kind ≡ End → token.to ≡ length text
 
 -- a gap separates, and a closed one where a token follows that is not the end
@@ -319,46 +329,64 @@ separates_at (Keyword k) text n h more = h.inner (more (λ e. cc))
 separates_at (Symbol k) text n h more = h.inner (more (λ e. cc))
 separates_at End text n h more = h.last
 
-range_is : (text : List ℕ) (place n : ℕ) → slice_range text place (place + n) ≡ take n (drop place text)
-range_is text place n = ap (λ k. take k (drop place text)) (let e : place + n - place ≡ n = omega arith in e)
+range_is : (text : List ℕ) (offset n : ℕ) → slice_range text offset (offset + n) ≡ take n (drop offset text)
+range_is text offset n = ap (λ k. take k (drop offset text)) (let e : offset + n - offset ≡ n = omega arith in e)
 
-cut_at : (text : List ℕ) (place : ℕ) (p : TokenKind × ℕ) → place ≤ length text → token_at (drop (place + gap_len (drop place text)) text) ≡ Some p
-    → (token : Token) → placed text (place + gap_len (drop place text)) (Some p) ≡ Ok token → CutAt text place token
-cut_at text place p le found token is =
-    let gap : ℕ = gap_len (drop place text) in
-    let from : ℕ = place + gap in
-    let size_of_rest = length-drop place text in
-    let g = gap_at (drop place text) in
-    let gap_within : gap ≤ length (drop place text) = g.within in
+-- the longest in what is left of a text is the longest at that offset
+longest_at : (text : List ℕ) (from size : ℕ) (token : Token) → token.from ≡ from → token.to ≡ from + size → from ≤ length text → IsLongestAt (drop from text) size → IsLongest text token
+longest_at text from size token from_is to_is le h =
+    record {
+      no_token = λ to kind longer within. λ spelled. no_lexeme to longer within (lexeme_from_spelled kind (slice_range text token.from to) (some to longer within) spelled);
+      no_word = λ to longer within. λ word. no_lexeme to longer within (inl word);
+    }
+  where
+    at : IsLongestAt (drop token.from text) size
+    at = subst (λ (k : ℕ). IsLongestAt (drop k text) size) (sym from_is) h
+
+    no_lexeme : (to : ℕ) → token.to < to → to ≤ length text → ¬ IsLexeme (slice_range text token.from to)
+    no_lexeme to longer within = at (to - token.from) (omega arith) (omega (arith, length-drop token.from text))
+
+    some : (to : ℕ) → token.to < to → to ≤ length text → 0 < length (slice_range text token.from to)
+    some to longer within = omega (arith, length-drop token.from text, length-take-le (to - token.from) (drop token.from text) (omega (arith, length-drop token.from text)))
+
+cut_at : (text : List ℕ) (offset : ℕ) (p : TokenKind × ℕ) → offset ≤ length text → token_at (drop (offset + gap_len (drop offset text)) text) ≡ Some p
+    → (token : Token) → located text (offset + gap_len (drop offset text)) (Some p) ≡ Ok token → CutAt text offset token
+cut_at text offset p le found token is =
+    let gap : ℕ = gap_len (drop offset text) in
+    let from : ℕ = offset + gap in
+    let size_of_rest = length-drop offset text in
+    let g = gap_at (drop offset text) in
+    let gap_within : gap ≤ length (drop offset text) = g.within in
     let size_of_text = length-drop from text in
     let h = token_is (drop from text) p found in
     let token_within : p.1 ≤ length (drop from text) = h.within in
     let made : Token = record { kind = p.0; from = from; to = from + p.1; line = line_at text from } in
-    let cut : CutAt text place made = record {
+    let cut : CutAt text offset made = record {
       order = omega arith;
-      within = (omega arith, omega arith);
-      separates = rw range_is (separates_at p.0 (drop place text) gap g (λ other. omega (arith, h.inside other)));
+      lies = found_lies text from made p.1 found refl refl (omega arith);
+      separates = rw range_is (separates_at p.0 (drop offset text) gap g (λ other. omega (arith, h.inside other)));
       spelled = λ short. rw range_is (h.spelled (λ name. let s = short name in omega arith));
+      longest = longest_at text from p.1 made refl refl (omega arith) h.longest;
       at_end = λ ends. omega (arith, h.at_end ends);
     } in
-    subst (CutAt text place) (let e : made ≡ token = cc in e) cut
+    subst (CutAt text offset) (let e : made ≡ token = cc in e) cut
 
-after_cases : (text : List ℕ) (place : ℕ) (token : Token) → place ≤ length text → (o : Option (TokenKind × ℕ)) → token_at (drop (place + gap_len (drop place text)) text) ≡ o
-    → placed text (place + gap_len (drop place text)) o ≡ Ok token → CutAt text place token
-after_cases text place token le None found is = absurd cc
-after_cases text place token le (Some p) found is = cut_at text place p le found token is
+after_cases : (text : List ℕ) (offset : ℕ) (token : Token) → offset ≤ length text → (o : Option (TokenKind × ℕ)) → token_at (drop (offset + gap_len (drop offset text)) text) ≡ o
+    → located text (offset + gap_len (drop offset text)) o ≡ Ok token → CutAt text offset token
+after_cases text offset token le None found is = absurd cc
+after_cases text offset token le (Some p) found is = cut_at text offset p le found token is
 
-pub after_is : (text : List ℕ) (place : ℕ) (token : Token) → place ≤ length text → token_after text place ≡ Ok token → CutAt text place token
+after_is : (text : List ℕ) (offset : ℕ) (token : Token) → offset ≤ length text → token_after text offset ≡ Ok token → CutAt text offset token
 unfolding token_after
-after_is text place token le e = after_cases text place token le (token_at (drop (place + gap_len (drop place text)) text)) refl e
+after_is text offset token le e = after_cases text offset token le (token_at (drop (offset + gap_len (drop offset text)) text)) refl e
 
 -- ---- the whole text
 
-depth_ok : (depth : ℕ) (token : Token) (then_depth : ℕ) → depth_behind depth token ≡ Ok then_depth → is_name token.kind ≡ true → token.to - token.from ≤ 64
-unfolding depth_behind
-depth_ok depth token then_depth e name =
-    elim (cases_lt 64 (token.to - token.from)) [
-      | inl long ↦ absurd (let t = lt-ltb 64 (token.to - token.from) long in let h : Err (LongName token.from) ≡ Ok then_depth = sym (rw (name, t) refl) ∙ e in cc)
+depth_ok : (depth : ℕ) (token : Token) (next_depth : ℕ) → depth_after depth token ≡ Ok next_depth → is_name token.kind ≡ true → token.to - token.from ≤ MOST_NAME_BYTES
+unfolding depth_after
+depth_ok depth token next_depth e name =
+    elim (cases_lt MOST_NAME_BYTES (token.to - token.from)) [
+      | inl long ↦ absurd (let t = lt-ltb MOST_NAME_BYTES (token.to - token.from) long in let h : Err (LongName token.from) ≡ Ok next_depth = sym (rw (name, t) refl) ∙ e in cc)
       | inr short ↦ short
     ]
 
@@ -366,15 +394,14 @@ bind_ok : {A B : Type 0} (r : Result A LexFault) (f : A → Result B LexFault) (
 bind_ok (Ok x) f y e = (x, refl, e)
 bind_ok (Err d) f y e = absurd cc
 
-abbrev pub Law : List ℕ → ℕ → List Token → Type 0
-Law text place tokens = IsCut text place tokens × All (IsSpelled text) tokens
-
-All-none : {X : Type 0} (P : X → Type 0) → All P []
-All-none P k d lt = absurd (omega arith)
-
-All-first : {X : Type 0} (P : X → Type 0) (x : X) (xs : List X) → P x → All P xs → All P (x ∷ xs)
-All-first P x xs h hs zero d lt = h
-All-first P x xs h hs (suc k) d lt = hs k d (omega arith)
+-- what holds of the tokens from an offset on, at most so many
+pub record Law (text : List ℕ) (offset most : ℕ) (tokens : List Token) : Type 0 where
+  pub cut : IsCut text offset tokens
+  pub spelled : All (IsSpelled text) tokens
+  pub longest : All (IsLongest text) tokens
+  pub lies : All (LiesIn text) tokens
+  pub few : length tokens ≤ most
+  pub ends : EndsOnce tokens
 
 is_end-true : (kind : TokenKind) → is_end kind ≡ true → kind ≡ End
 is_end-true Name e = absurd cc
@@ -383,33 +410,88 @@ is_end-true (Keyword n) e = absurd cc
 is_end-true (Symbol n) e = absurd cc
 is_end-true End e = refl
 
-law_first : (text : List ℕ) (place : ℕ) (token : Token) (others : List Token) → CutAt text place token → (is_name token.kind ≡ true → token.to - token.from ≤ 64) → Law text token.to others → Law text place (token ∷ others)
-law_first text place token others cut short h = ((cut.order, cut.separates, h.0), All-first (IsSpelled text) token others (cut.spelled short) h.1)
+is_end-false : (kind : TokenKind) → is_end kind ≡ false → kind ≡ End → ⊥
+is_end-false kind e ends = let h : true ≡ false = sym (ap is_end ends) ∙ e in absurd (cc)
 
--- what stands behind a token, where the tokens from its end on are a cut
-law_step : (room : ℕ) (text : List ℕ) (place depth_then : ℕ) (token : Token) (all : List Token) → CutAt text place token → (is_name token.kind ≡ true → token.to - token.from ≤ 64)
-    → ((others : List Token) → tokens_from room text token.to depth_then ≡ Ok others → Law text token.to others) → (r : Bool) → is_end token.kind ≡ r
-    → cond r (Ok (token ∷ [])) (tokens_from room text token.to depth_then >>= λ others. Ok (token ∷ others)) ≡ Ok all → Law text place all
-law_step room text place depth_then token all cut short further true ends e =
-    subst (Law text place) (let same : token ∷ [] ≡ all = cc in same) (law_first text place token [] cut short (cut.at_end (is_end-true token.kind ends), All-none (IsSpelled text)))
-law_step room text place depth_then token all cut short further false ends e =
-    let a = bind_ok (tokens_from room text token.to depth_then) (λ others. Ok (token ∷ others)) all e in
-    let is = a.2 in
-    subst (Law text place) (let same : token ∷ a.0 ≡ all = cc in same) (law_first text place token a.0 cut short (further a.0 a.1))
+ends_last : (token : Token) → token.kind ≡ End → EndsOnce (token ∷ [])
+ends_last token ends = (omega arith, only)
+  where
+    only : (k : ℕ) (d : Token) → k < length (token ∷ []) → ((slice_index_or (token ∷ []) k d).kind ≡ End) ↔ (k + 1 ≡ length (token ∷ []))
+    only zero d lt = (λ e. refl, λ e. ends)
+    only (suc k) d lt = absurd (omega arith)
 
-law_from : (room : ℕ) (text : List ℕ) (place depth : ℕ) (all : List Token) → place ≤ length text → tokens_from room text place depth ≡ Ok all → Law text place all
+ends_later : (token : Token) (others : List Token) → (token.kind ≡ End → ⊥) → EndsOnce others → EndsOnce (token ∷ others)
+ends_later token others differs h = (omega arith, only)
+  where
+    only : (k : ℕ) (d : Token) → k < length (token ∷ others) → ((slice_index_or (token ∷ others) k d).kind ≡ End) ↔ (k + 1 ≡ length (token ∷ others))
+    only zero d lt = (λ e. absurd (differs e), λ e. absurd (omega (arith, h.0)))
+    only (suc k) d lt = let other = h.1 k d (omega arith) in (λ e. let at = other.0 e in omega arith, λ e. other.1 (omega arith))
+
+module _ (text : List ℕ) (offset fuel : ℕ) (token : Token) (cut : CutAt text offset token) (short : is_name token.kind ≡ true → token.to - token.from ≤ MOST_NAME_BYTES) where
+  law_last : token.kind ≡ End → Law text offset (suc fuel) (token ∷ [])
+  law_last ends = record {
+    cut = (cut.order, cut.separates, cut.at_end ends);
+    spelled = All-cons (IsSpelled text) token [] (cut.spelled short) (All-nil (IsSpelled text));
+    longest = All-cons (IsLongest text) token [] cut.longest (All-nil (IsLongest text));
+    lies = All-cons (LiesIn text) token [] cut.lies (All-nil (LiesIn text));
+    few = omega arith;
+    ends = ends_last token ends;
+  }
+
+  law_first : (others : List Token) → (token.kind ≡ End → ⊥) → Law text token.to fuel others → Law text offset (suc fuel) (token ∷ others)
+  law_first others differs h = record {
+    cut = (cut.order, cut.separates, h.cut);
+    spelled = All-cons (IsSpelled text) token others (cut.spelled short) h.spelled;
+    longest = All-cons (IsLongest text) token others cut.longest h.longest;
+    lies = All-cons (LiesIn text) token others cut.lies h.lies;
+    few = let few = h.few in omega arith;
+    ends = ends_later token others differs h.ends;
+  }
+
+  -- the law of a token and those after it, where it holds of those
+  law_step : (next_depth : ℕ) (all : List Token) → ((others : List Token) → tokens_from fuel text token.to next_depth ≡ Ok others → Law text token.to fuel others) → (r : Bool) → is_end token.kind ≡ r
+      → cond r (Ok (token ∷ [])) (tokens_from fuel text token.to next_depth >>= λ others. Ok (token ∷ others)) ≡ Ok all → Law text offset (suc fuel) all
+  law_step next_depth all others_law true ends e =
+      subst (Law text offset (suc fuel)) (let same : token ∷ [] ≡ all = cc in same) (law_last (is_end-true token.kind ends))
+  law_step next_depth all others_law false ends e =
+      let a = bind_ok (tokens_from fuel text token.to next_depth) (λ others. Ok (token ∷ others)) all e in
+      let is = a.2 in
+      subst (Law text offset (suc fuel)) (let same : token ∷ a.0 ≡ all = cc in same) (law_first a.0 (is_end-false token.kind ends) (others_law a.0 a.1))
+
+law_from : (fuel : ℕ) (text : List ℕ) (offset depth : ℕ) (all : List Token) → offset ≤ length text → tokens_from fuel text offset depth ≡ Ok all → Law text offset fuel all
 unfolding tokens_from
-law_from zero text place depth all le e =
-    let a = bind_ok (token_after text place) (λ (token : Token). Err (TooMany token.from)) all e in
+law_from zero text offset depth all le e =
+    let a = bind_ok (token_after text offset) (λ (token : Token). Err (TooMany token.from)) all e in
     let h = a.2 in
     absurd cc
-law_from (suc room) text place depth all le e =
-    let behind : Token → ℕ → Result (List Token) LexFault = λ token depth_then. cond (is_end token.kind) (Ok (token ∷ [])) (tokens_from room text token.to depth_then >>= λ others. Ok (token ∷ others)) in
-    let a = bind_ok (token_after text place) (λ (token : Token). depth_behind depth token >>= behind token) all e in
-    let b = bind_ok (depth_behind depth a.0) (behind a.0) all a.2 in
-    let cut = after_is text place a.0 le a.1 in
-    law_step room text place b.0 a.0 all cut (depth_ok depth a.0 b.0 b.1) (λ others h. law_from room text a.0.to b.0 others cut.within.1 h) (is_end a.0.kind) refl b.2
+law_from (suc fuel) text offset depth all le e =
+    let further : Token → ℕ → Result (List Token) LexFault = λ token next_depth. cond (is_end token.kind) (Ok (token ∷ [])) (tokens_from fuel text token.to next_depth >>= λ others. Ok (token ∷ others)) in
+    let a = bind_ok (token_after text offset) (λ (token : Token). depth_after depth token >>= further token) all e in
+    let b = bind_ok (depth_after depth a.0) (further a.0) all a.2 in
+    let cut = after_is text offset a.0 le a.1 in
+    law_step text offset fuel a.0 cut (depth_ok depth a.0 b.0 b.1) b.0 all (λ others h. law_from fuel text a.0.to b.0 others cut.lies.within h) (is_end a.0.kind) refl b.2
 
-pub law_of : (text : List ℕ) (all : List Token) → tokens text ≡ Ok all → Law text 0 all
+law_of : (text : List ℕ) (all : List Token) → tokens text ≡ Ok all → Law text 0 MOST_TOKENS all
 unfolding tokens
-law_of text all e = law_from 65536 text 0 0 all (omega arith) e
+law_of text all e = law_from MOST_TOKENS text 0 0 all (omega arith) e
+
+-- ---- the laws, each alone
+
+module _ (text : List ℕ) (all : List Token) (are : tokens text ≡ Ok all) where
+  pub are_cut : IsCut text 0 all
+  are_cut = (law_of text all are).cut
+
+  pub are_spelled : All (IsSpelled text) all
+  are_spelled = (law_of text all are).spelled
+
+  pub are_longest : All (IsLongest text) all
+  are_longest = (law_of text all are).longest
+
+  pub all_lie : All (LiesIn text) all
+  all_lie = (law_of text all are).lies
+
+  pub are_few : length all ≤ MOST_TOKENS
+  are_few = (law_of text all are).few
+
+  pub end_once : EndsOnce all
+  end_once = (law_of text all are).ends

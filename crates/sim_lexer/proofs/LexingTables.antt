@@ -1,4 +1,4 @@
--- The first row of a table that passes a test is the first place that does, where the rows are numbered by their places.
+-- The first row of a table that passes a test is at the first index that does, where each row's number is its index.
 use Rattle.std.proofs.Common.{◌≡◌, ℕ, zero, suc, ◌+◌, ◌<◌, ◌≤◌, Bool, true, false, cond, not, List, [], ◌∷◌, length, get_or, drop, map, ◌++◌, length-append, Option, Some, None, refl, sym, ap, ◌∙◌, arith, Bor, inl, inr}
 use Rattle.std.specs.Prelude.{IfSome, position, find, option_map, nat_lt, nat_eq}
 use Rattle.std.specs.List.{position_or_len, range_with_len, starts_with}
@@ -18,29 +18,29 @@ spelling row = row.0.now
 abbrev pub number : Row → ℕ
 number row = row.1
 
-one_more_below : (k n : ℕ) → nat_lt (1 + k) (suc n) ≡ nat_lt k n
-one_more_below k n =
+next_below : (k n : ℕ) → nat_lt (1 + k) (suc n) ≡ nat_lt k n
+next_below k n =
     elim (cases_lt k n) [
       | inl lt ↦ lt-ltb (1 + k) (suc n) (omega arith) ∙ sym (lt-ltb k n lt)
       | inr le ↦ le-ltb (1 + k) (suc n) (omega arith) ∙ sym (le-ltb k n le)
     ]
 
-one_more_place : (b : Bool) (k : ℕ) → cond b (Some (1 + k)) None ≡ option_map (λ i. suc i) (cond b (Some k) None)
-one_more_place true k = ap Some (omega arith)
-one_more_place false k = refl
+next_index : (b : Bool) (k : ℕ) → cond b (Some (1 + k)) None ≡ option_map (λ i. suc i) (cond b (Some k) None)
+next_index true k = ap Some (omega arith)
+next_index false k = refl
 
 position_cons : {X : Type 0} (p : X → Bool) (x : X) (xs : List X) → position p (x ∷ xs) ≡ cond (p x) (Some 0) (option_map (λ k. suc k) (position p xs))
 position_cons p x xs = go (p x)
   where
     go : (b : Bool) → cond (nat_lt (cond (not b) (1 + position_or_len p xs) 0) (suc (length xs))) (Some (cond (not b) (1 + position_or_len p xs) 0)) None ≡ cond b (Some 0) (option_map (λ k. suc k) (position p xs))
     go true = ap (λ b. cond b (Some 0) None) (lt-ltb 0 (suc (length xs)) (omega arith))
-    go false = ap (λ b. cond b (Some (1 + position_or_len p xs)) None) (one_more_below (position_or_len p xs) (length xs)) ∙ one_more_place (nat_lt (position_or_len p xs) (length xs)) (position_or_len p xs)
+    go false = ap (λ b. cond b (Some (1 + position_or_len p xs)) None) (next_below (position_or_len p xs) (length xs)) ∙ next_index (nat_lt (position_or_len p xs) (length xs)) (position_or_len p xs)
 
 option_map_suc : {Y : Type 0} (g : ℕ → Y) (o : Option ℕ) → option_map g (option_map (λ k. suc k) o) ≡ option_map (λ k. g (suc k)) o
 option_map_suc g None = refl
 option_map_suc g (Some k) = refl
 
--- what f tells of the first row that passes, where g tells it of each row's place
+-- f of the first row that passes, where f of each row is g of its index
 pub first_row : {Y : Type 0} (f : Row → Y) (g : ℕ → Y) (p : List ℕ → Bool) (rows : List Row) → ((k : ℕ) (d : Row) → k < length rows → f (get_or rows k d) ≡ g k)
     → option_map f (find (λ row. p (spelling row)) rows) ≡ option_map g (position p (map spelling rows))
 first_row f g p [] h = refl
@@ -52,7 +52,7 @@ first_row {Y} f g p (row ∷ rows) h =
     go true e = ap (λ (y : Y). Some y) (h 0 row (omega arith))
     go false e = e ∙ sym (option_map_suc g (position p (map spelling rows)))
 
--- the number of each row is its place
+-- the number of each row is its index
 abbrev pub AreNumbered : List Row → Type 0
 AreNumbered rows = map number rows ≡ range_with_len 0 (length rows)
 
@@ -89,7 +89,7 @@ begins_within text s e =
     let parts : text ≡ s ++ drop (length s) text = (starts_is Decides-eqb text s (starts_with nat_eq text s) refl).0 e in
     omega (arith, simp length-append at (ap length parts))
 
--- the length that is found is that of a front of the text
+-- the length that is found is that of a prefix of the text
 pub found_within : (text : List ℕ) (spellings : List (List ℕ)) → IfSome {T = ℕ × ℕ} (option_map (λ k. (k, length (get_or spellings k []))) (position (starts_with nat_eq text) spellings)) (λ found. found.1 ≤ length text)
 found_within text spellings =
     elim (cases_lt (position_or_len (starts_with nat_eq text) spellings) (length spellings)) [

@@ -1,3 +1,4 @@
 pub mod Lexing
 pub mod LexingLaw
 pub mod LexingTables
+pub mod LongestTokens

@@ -2,44 +2,51 @@
 use Rattle.std.specs.Prelude.{◌≡◌, ℕ, zero, suc, ◌+◌, ◌-◌, ◌≤◌, ◌<◌, ◌↔◌, Bool, true, false, not, ◌&&◌, ◌||◌, ◌==◌, nat_lt, nat_eq, List, [], ◌∷◌, ◌++◌, length, take, drop, count_by, position, slice_index, slice_index_or, slice_range, Contains, ◌⊎◌, Option, Some, None, option_map, Result, Ok, Err, if◌then◌else◌, codes, bytes_eq, IsAscii}
 use Rattle.std.specs.List.{prefix_len, starts_with, list_all}
 use Rattle.std.specs.Char.{is_ascii_digit, is_ascii_alphabetic}
+use Rattle.vocabulary.specs.Answers.{◌>>=◌}
+use Rattle.vocabulary.specs.declared.limits.TheConstants.{MOST_TOKENS, MOST_NAME_BYTES, MOST_DEPTH}
+use Rattle.vocabulary.specs.declared.marks.TheConstants.{SPACE, LINE_FEED, POINT}
 use Rattle.sim_lexer.specs.declared.token.Token.{Token}
 use Rattle.sim_lexer.specs.declared.token.TokenKind.{TokenKind}
 use Rattle.sim_lexer.specs.declared.token.TokenKind.TheVariants.{Name, Number, Keyword, Symbol, End}
 use Rattle.sim_lexer.specs.declared.token.LexFault.{LexFault}
-use Rattle.sim_lexer.specs.declared.token.LexFault.TheVariants.{BadByte, LongName, TooMany, TooDeep, Memory}
+use Rattle.sim_lexer.specs.declared.token.LexFault.TheVariants.{BadByte, LongName, TooMany, TooDeep}
 use Rattle.sim_lexer.specs.declared.token.keyword.TheConstants.{IF, WHILE, FOR, END}
 use Rattle.sim_lexer.specs.declared.token.symbol.TheConstants.{OPEN_PAREN, CLOSE_PAREN, OPEN_BRACKET, CLOSE_BRACKET, OPEN_BRACE, CLOSE_BRACE}
 
 -- ---- spellings
 
--- the keywords; the number of a keyword is its place here, from 0
+-- the keywords; the number of a keyword is its index here, from 0
 abbrev pub keywords : List (List ℕ)
 keywords = codes "and" ∷ codes "assert" ∷ codes "by" ∷ codes "dot" ∷ codes "element" ∷ codes "else" ∷ codes "end" ∷ codes "extern" ∷ codes "for" ∷ codes "func" ∷ codes "if" ∷ codes "in" ∷ codes "int" ∷ codes "isqrt" ∷ codes "ix" ∷ codes "main" ∷ codes "map" ∷ codes "matrix" ∷ codes "max" ∷ codes "min" ∷ codes "not" ∷ codes "or" ∷ codes "proc" ∷ codes "quot" ∷ codes "reduce" ∷ codes "rescale" ∷ codes "set" ∷ codes "tangent" ∷ codes "to" ∷ codes "var" ∷ codes "vector" ∷ codes "while" ∷ []
 
--- the symbols, the longer ones first; the number of a symbol is its place here, from 0
+-- the symbols, the longer ones first; the number of a symbol is its index here, from 0
 abbrev pub symbols : List (List ℕ)
 symbols = codes ".*" ∷ codes "->" ∷ codes "==" ∷ codes "!=" ∷ codes "<=" ∷ codes ">=" ∷ codes "(" ∷ codes ")" ∷ codes "[" ∷ codes "]" ∷ codes "{" ∷ codes "}" ∷ codes ":" ∷ codes ";" ∷ codes "," ∷ codes "." ∷ codes "*" ∷ codes "+" ∷ codes "-" ∷ codes "=" ∷ codes "<" ∷ codes ">" ∷ codes "'" ∷ []
 
+-- the byte of a text of one byte
+abbrev pub byte : List ℕ → ℕ
+byte text = slice_index text 0
+
 abbrev pub is_line_feed : ℕ → Bool
-is_line_feed b = b == 10
+is_line_feed b = b == LINE_FEED
 
 -- a space, a tab, a carriage return or a line feed
 abbrev pub is_blank : ℕ → Bool
-is_blank b = b == 32 || b == 9 || b == 13 || is_line_feed b
+is_blank b = b == SPACE || b == byte (codes "\t") || b == byte (codes "\r") || is_line_feed b
 
 abbrev pub is_percent : ℕ → Bool
-is_percent b = b == 37
+is_percent b = b == byte (codes "%")
 
 abbrev pub is_letter : ℕ → Bool
-is_letter b = is_ascii_alphabetic b || b == 95
+is_letter b = is_ascii_alphabetic b || b == byte (codes "_")
 
 abbrev pub is_name_byte : ℕ → Bool
 is_name_byte b = is_letter b || is_ascii_digit b
 
--- ---- what stands at the front of a text
+-- ---- what a text begins with
 
 abbrev mutual
-  -- how many bytes of blanks and comments stand at the front of a text
+  -- with how many bytes of blanks and comments a text begins
   pub gap_len : List ℕ → ℕ
   gap_len [] = 0
   gap_len (b ∷ text) = if is_blank b then 1 + gap_len text else if is_percent b then 1 + comment_len text else 0
@@ -55,7 +62,7 @@ name_len text = prefix_len is_name_byte text
 abbrev pub digits_len : List ℕ → ℕ
 digits_len text = prefix_len is_ascii_digit text
 
--- digits, and where a digit follows a point behind them, the point and the digits there
+-- digits, and where a point and a digit follow them, the point and the digits after it
 abbrev pub number_len : List ℕ → ℕ
 number_len text =
     let whole = digits_len text in
@@ -88,25 +95,20 @@ token_at (b ∷ rest) =
 
 -- ---- the whole text
 
-infixl 10 ◌>>=◌
-abbrev pub ◌>>=◌ : {A B : Type 0} → Result A LexFault → (A → Result B LexFault) → Result B LexFault
-(Ok x) >>= f = f x
-(Err e) >>= f = Err e
-
--- the line of a place: 1 and the line feeds before it
+-- the line of an offset: 1 and the line feeds before it
 abbrev pub line_at : List ℕ → ℕ → ℕ
-line_at text place = 1 + count_by is_line_feed (take place text)
+line_at text offset = 1 + count_by is_line_feed (take offset text)
 
--- the token of that kind and length at a place of the text
-abbrev pub placed : List ℕ → ℕ → Option (TokenKind × ℕ) → Result Token LexFault
-placed text from None = Err (BadByte from)
-placed text from (Some token) = Ok (record { kind = token.0; from = from; to = from + token.1; line = line_at text from })
+-- the token of that kind and length at an offset of the text
+abbrev pub located : List ℕ → ℕ → Option (TokenKind × ℕ) → Result Token LexFault
+located text from None = Err (BadByte from)
+located text from (Some token) = Ok (record { kind = token.0; from = from; to = from + token.1; line = line_at text from })
 
--- the token that follows a place of the text, behind the gap there
+-- the next token from an offset of the text on, after the gap there
 unfoldable pub token_after : List ℕ → ℕ → Result Token LexFault
-token_after text place =
-    let from = place + gap_len (drop place text) in
-    placed text from (token_at (drop from text))
+token_after text offset =
+    let from = offset + gap_len (drop offset text) in
+    located text from (token_at (drop from text))
 
 abbrev pub opens : TokenKind → Bool
 opens (Keyword n) = n == IF || n == WHILE || n == FOR
@@ -118,9 +120,9 @@ closes (Keyword n) = n == END
 closes (Symbol n) = n == CLOSE_PAREN || n == CLOSE_BRACKET || n == CLOSE_BRACE
 closes _ = false
 
--- the depth behind a token, from the depth before it: it never falls below 0
-abbrev pub depth_after : ℕ → TokenKind → ℕ
-depth_after depth kind = if opens kind then depth + 1 else if closes kind then depth - 1 else depth
+-- how many brackets and blocks are open after a token of this kind, from those before it: never below 0
+abbrev pub depth_after_kind : ℕ → TokenKind → ℕ
+depth_after_kind depth kind = if opens kind then depth + 1 else if closes kind then depth - 1 else depth
 
 abbrev pub is_name : TokenKind → Bool
 is_name Name = true
@@ -130,40 +132,26 @@ abbrev pub is_end : TokenKind → Bool
 is_end End = true
 is_end _ = false
 
--- the depth behind a token, or its fault: it is a name over 64 bytes, or it is the 65th bracket or block that is open
-unfoldable pub depth_behind : ℕ → Token → Result ℕ LexFault
-depth_behind depth token =
-    if is_name token.kind && nat_lt 64 (token.to - token.from) then Err (LongName token.from)
-    else if nat_lt 64 (depth_after depth token.kind) then Err (TooDeep token.from)
-    else Ok (depth_after depth token.kind)
+-- the depth after a token, or its fault: it is too long a name, or opens one bracket or block too many
+unfoldable pub depth_after : ℕ → Token → Result ℕ LexFault
+depth_after depth token =
+    if is_name token.kind && nat_lt MOST_NAME_BYTES (token.to - token.from) then Err (LongName token.from)
+    else if nat_lt MOST_DEPTH (depth_after_kind depth token.kind) then Err (TooDeep token.from)
+    else Ok (depth_after_kind depth token.kind)
 
--- the tokens from a place on, up to the end of the text, where there is room for so many and the depth is known
+-- the tokens from an offset on, up to the end of the text, where the fuel is how many more there may be
 unfoldable pub tokens_from : ℕ → List ℕ → ℕ → ℕ → Result (List Token) LexFault
-tokens_from zero text place depth = do
-  token ← token_after text place
+tokens_from zero text offset depth = do
+  token ← token_after text offset
   Err (TooMany token.from)
-tokens_from (suc room) text place depth = do
-  token ← token_after text place
-  depth_then ← depth_behind depth token
-  if is_end token.kind then Ok (token ∷ []) else (tokens_from room text token.to depth_then >>= λ others. Ok (token ∷ others))
+tokens_from (suc fuel) text offset depth = do
+  token ← token_after text offset
+  next_depth ← depth_after depth token
+  if is_end token.kind then Ok (token ∷ []) else (tokens_from fuel text token.to next_depth >>= λ others. Ok (token ∷ others))
 
--- the tokens of a text, at most 65,536 with its end, or the first fault in it
+-- the tokens of a text, with its end, or the first fault in it
 unfoldable pub tokens : List ℕ → Result (List Token) LexFault
-tokens text = tokens_from 65536 text 0 0
-
--- ---- what is answered
-
--- an answer is what is told, unless memory ran out
-abbrev pub Fails : {A : Type 0} → LexFault → Result A LexFault → Type 0
-Fails Memory told = Unit {0}
-Fails (BadByte at) told = told ≡ Err (BadByte at)
-Fails (LongName at) told = told ≡ Err (LongName at)
-Fails (TooMany at) told = told ≡ Err (TooMany at)
-Fails (TooDeep at) told = told ≡ Err (TooDeep at)
-
-abbrev pub Answers : Result (List Token) LexFault → Result (List Token) LexFault → Type 0
-Answers (Ok all) told = told ≡ Ok all
-Answers (Err fault) told = Fails fault told
+tokens text = tokens_from MOST_TOKENS text 0 0
 
 -- ---- what a reader of the tokens can rely on
 
@@ -177,21 +165,21 @@ pub record LiesIn (text : List ℕ) (token : Token) : Type 0 where
 abbrev pub EndsOnce : List Token → Type 0
 EndsOnce tokens = (0 < length tokens) × ((k : ℕ) (d : Token) → k < length tokens → ((slice_index_or tokens k d).kind ≡ End) ↔ (k + 1 ≡ length tokens))
 
--- ---- the law: a text is its tokens' bytes with gaps between
+-- ---- the law: a text is its tokens' bytes with gaps between, and each token is the longest
 
 abbrev pub is_one_line : List ℕ → Bool
 is_one_line bytes = list_all (λ b. not (is_line_feed b)) bytes
 
--- a gap: blanks, and comments from % to a line feed
+-- a gap: blanks, and comments from a percent sign to a line feed
 pub data IsGap : List ℕ → Type 0 where
   nothing : IsGap []
   blank : (b : ℕ) (gap : List ℕ) → is_blank b ≡ true → IsGap gap → IsGap (b ∷ gap)
-  comment : (words gap : List ℕ) → is_one_line words ≡ true → IsGap gap → IsGap (37 ∷ words ++ 10 ∷ gap)
+  comment : (words gap : List ℕ) → is_one_line words ≡ true → IsGap gap → IsGap (codes "%" ++ words ++ LINE_FEED ∷ gap)
 
 -- the gap before the end of a text, which may have a comment without a line feed at its end
 pub data IsLastGap : List ℕ → Type 0 where
   closed : (gap : List ℕ) → IsGap gap → IsLastGap gap
-  left_open : (gap words : List ℕ) → IsGap gap → is_one_line words ≡ true → IsLastGap (gap ++ 37 ∷ words)
+  left_open : (gap words : List ℕ) → IsGap gap → is_one_line words ≡ true → IsLastGap (gap ++ (codes "%" ++ words))
 
 abbrev pub Separates : TokenKind → List ℕ → Type 0
 Separates End gap = IsLastGap gap
@@ -206,11 +194,11 @@ AreDigits digits = (0 < length digits) × (list_all is_ascii_digit digits ≡ tr
 
 -- digits, or digits, a point and digits
 abbrev pub IsNumber : List ℕ → Type 0
-IsNumber bytes = AreDigits bytes ⊎ ((whole decimals : List ℕ) × AreDigits whole × AreDigits decimals × (bytes ≡ whole ++ 46 ∷ decimals))
+IsNumber bytes = AreDigits bytes ⊎ ((whole decimals : List ℕ) × AreDigits whole × AreDigits decimals × (bytes ≡ whole ++ POINT ∷ decimals))
 
 -- the bytes that a token of a kind may have
 abbrev pub Spells : TokenKind → List ℕ → Type 0
-Spells Name word = IsWord word × (length word ≤ 64) × ¬ (Contains keywords word)
+Spells Name word = IsWord word × (length word ≤ MOST_NAME_BYTES) × ¬ (Contains keywords word)
 Spells Number bytes = IsNumber bytes
 Spells (Keyword n) word = (n < length keywords) × (slice_index_or keywords n [] ≡ word)
 Spells (Symbol n) signs = (n < length symbols) × (slice_index_or symbols n [] ≡ signs)
@@ -219,7 +207,13 @@ Spells End bytes = bytes ≡ []
 abbrev pub IsSpelled : List ℕ → Token → Type 0
 IsSpelled text token = Spells token.kind (slice_range text token.from token.to)
 
--- from a place on, the text is these tokens in order, with gaps before them and nothing behind
+-- from an offset on, the text is these tokens in order, with gaps before them and nothing after
 abbrev pub IsCut : List ℕ → ℕ → List Token → Type 0
-IsCut text place [] = place ≡ length text
-IsCut text place (token ∷ others) = (place ≤ token.from) × Separates token.kind (slice_range text place token.from) × IsCut text token.to others
+IsCut text offset [] = offset ≡ length text
+IsCut text offset (token ∷ others) = (offset ≤ token.from) × Separates token.kind (slice_range text offset token.from) × IsCut text token.to others
+
+-- a token is the longest at its offset: no longer slice of the text from there on is spelled as a token of any kind, or is a
+-- word, even one that is too long for a name
+pub record IsLongest (text : List ℕ) (token : Token) : Type 0 where
+  pub no_token : (to : ℕ) (kind : TokenKind) → token.to < to → to ≤ length text → ¬ Spells kind (slice_range text token.from to)
+  pub no_word : (to : ℕ) → token.to < to → to ≤ length text → ¬ IsWord (slice_range text token.from to)

@@ -1,36 +1,33 @@
 //! Cuts the text of a program into its tokens.
 //!
-//! Blanks and comments separate tokens, and each token is the longest that can stand at its place. A text
-//! has at most 65,536 tokens with its end, a name at most 64 bytes, and at most 64 brackets and blocks are
-//! open at once.
+//! Blanks and comments separate tokens, and each token is the longest that can stand at its offset. How many
+//! tokens a text may have, how long a name may be and how many brackets and blocks may be open at once is
+//! limited.
 
-ghost use Rattle.std.specs.Prelude.{◌≡◌, ◌+◌, ◌<◌, ◌≤◌, ◌^◌, length, take, drop, count_by, IfOk, IfSome, All, bytes_eq, find, option_map, nat_eq, map, position, slice_index_or, []};
+ghost use Rattle.std.specs.Prelude.{◌≡◌, ◌+◌, ◌<◌, ◌≤◌, List, Ok, length, take, drop, count_by, IfOk, IfSome, All, bytes_eq, find, option_map, nat_eq, map, position, slice_index_or, []};
 ghost use Rattle.std.specs.List.{starts_with, range_with_len};
+ghost use Rattle.vocabulary.specs.Answers.{Answers};
 ghost use Rattle.sim_lexer.specs.Tokens as spec;
 
 use crate::token::{KEYWORDS, LexFault, SYMBOLS, Token, TokenKind, keyword, symbol};
 use crate::tokens::Tokens;
 use std::alloc::Global;
+use vocabulary::limits::{MOST_DEPTH, MOST_NAME_BYTES, MOST_PROGRAM_BYTES, MOST_TOKENS};
 
-/// The most tokens that a text may have, its end included.
-const MOST_TOKENS: usize = 65_536;
-/// The most bytes that a name may have.
-const LONGEST_NAME: u32 = 64;
-/// The most brackets and blocks that may be open at once.
-const MOST_DEPTH: u32 = 64;
-
-/// The tokens of a text of at most 2^20 bytes, the last of them its end, or the first fault in the text.
+/// The tokens of a text, the last of them its end, or the first fault in the text.
+#[tactic(auto, using(crate::proofs::LexingLaw::are_cut, crate::proofs::LexingLaw::are_spelled, crate::proofs::LexingLaw::are_longest, crate::proofs::LexingLaw::all_lie, crate::proofs::LexingLaw::are_few, crate::proofs::LexingLaw::end_once))]
 pub fn lex(alloc: Global, bytes: &[u8]) -> Result<Tokens, LexFault>
-    requires { length bytes.now ≤ 2 ^ 20 }
+    requires { length bytes.now ≤ MOST_PROGRAM_BYTES }
     // Which tokens they are, and which fault it is.
-    ensures exact { spec.Answers result (spec.tokens bytes.now) }
-    // The text is their bytes with gaps between.
-    ensures cut { IfOk result (spec.IsCut bytes.now 0) }
-    ensures spelled { IfOk result (All (spec.IsSpelled bytes.now)) }
+    ensures exact { Answers LexFault.Memory (spec.tokens bytes.now) result }
+    // Where a text has tokens, it is their bytes with gaps between, and each is the longest.
+    ensures cut { (tokens : List Token) → spec.tokens bytes.now ≡ Ok tokens → spec.IsCut bytes.now 0 tokens }
+    ensures spelled { (tokens : List Token) → spec.tokens bytes.now ≡ Ok tokens → All (spec.IsSpelled bytes.now) tokens }
+    ensures longest { (tokens : List Token) → spec.tokens bytes.now ≡ Ok tokens → All (spec.IsLongest bytes.now) tokens }
     // What a reader of them can rely on.
-    ensures lies { IfOk result (All (spec.LiesIn bytes.now)) }
-    ensures few { IfOk result (λ tokens. length tokens ≤ 65536) }
-    ensures ends { IfOk result spec.EndsOnce }
+    ensures lies { (tokens : List Token) → spec.tokens bytes.now ≡ Ok tokens → All (spec.LiesIn bytes.now) tokens }
+    ensures few { (tokens : List Token) → spec.tokens bytes.now ≡ Ok tokens → length tokens ≤ MOST_TOKENS }
+    ensures ends { (tokens : List Token) → spec.tokens bytes.now ≡ Ok tokens → spec.EndsOnce tokens }
 {
     let mut tokens = Vec::new(alloc);
     let mut last = Token {
@@ -42,10 +39,10 @@ pub fn lex(alloc: Global, bytes: &[u8]) -> Result<Tokens, LexFault>
     let mut depth = 0;
     loop {
         let token = token_after(bytes, last)?;
-        if tokens.len() == MOST_TOKENS {
+        if tokens.len() == MOST_TOKENS as usize {
             return Err(LexFault::TooMany { at: token.from });
         }
-        depth = depth_behind(depth, token)?;
+        depth = depth_after(depth, token)?;
         tokens.push(token).map_err(|_| LexFault::Memory)?;
         if token.kind == TokenKind::End {
             return Ok(Tokens::of(tokens));
@@ -54,18 +51,18 @@ pub fn lex(alloc: Global, bytes: &[u8]) -> Result<Tokens, LexFault>
     }
 }
 
-/// The token behind the gap that follows the last token, or the bad byte there.
+/// The next token after the last one and a gap, or the bad byte there.
 #[tactic(auto, using(crate::proofs::Lexing::line_moves), unfolding(crate::specs::Tokens::token_after))]
 fn token_after(bytes: &[u8], last: Token) -> Result<Token, LexFault>
-    requires size { length bytes.now ≤ 2 ^ 20 }
+    requires size { length bytes.now ≤ MOST_PROGRAM_BYTES }
     requires last { spec.LiesIn bytes.now last }
     requires line { last.line ≡ spec.line_at bytes.now last.from }
     ensures exact { result ≡ spec.token_after bytes.now last.to }
     ensures lies { IfOk result (spec.LiesIn bytes.now) }
     ensures line { IfOk result (λ token. token.line ≡ spec.line_at bytes.now token.from) }
 {
-    let place = last.to as usize;
-    let from = place + gap_len(&bytes[place..]);
+    let offset = last.to as usize;
+    let from = offset + gap_len(&bytes[offset..]);
     match token_at(&bytes[from..]) {
         None => Err(LexFault::BadByte { at: from as u32 }),
         Some((kind, size)) => Ok(Token {
@@ -84,28 +81,28 @@ fn line_feeds(bytes: &[u8]) -> usize
     bytes.iter().filter(|b| **b == b'\n').count()
 }
 
-/// How many brackets and blocks are open behind a token, where `depth` are before it, or the token's fault.
-#[tactic(auto, unfolding(crate::specs::Tokens::depth_behind))]
-fn depth_behind(depth: u32, token: Token) -> Result<u32, LexFault>
+/// How many brackets and blocks are open after a token, from those before it, or the token's fault.
+#[tactic(auto, unfolding(crate::specs::Tokens::depth_after))]
+fn depth_after(depth: u32, token: Token) -> Result<u32, LexFault>
     requires order { token.from ≤ token.to }
-    requires depth { depth ≤ 64 }
-    ensures exact { result ≡ spec.depth_behind depth token }
-    ensures within { IfOk result (λ depth. depth ≤ 64) }
+    requires depth { depth ≤ MOST_DEPTH }
+    ensures exact { result ≡ spec.depth_after depth token }
+    ensures within { IfOk result (λ depth. depth ≤ MOST_DEPTH) }
 {
-    if token.kind == TokenKind::Name && token.to - token.from > LONGEST_NAME {
+    if token.kind == TokenKind::Name && token.to - token.from > MOST_NAME_BYTES {
         return Err(LexFault::LongName { at: token.from });
     }
-    let depth = depth_after(depth, token.kind);
+    let depth = depth_after_kind(depth, token.kind);
     if depth > MOST_DEPTH {
         return Err(LexFault::TooDeep { at: token.from });
     }
     Ok(depth)
 }
 
-/// The depth behind a token of this kind, from the depth before it. It never falls below 0.
-fn depth_after(depth: u32, kind: TokenKind) -> u32
-    requires { depth ≤ 64 }
-    ensures { result ≡ spec.depth_after depth kind }
+/// How many brackets and blocks are open after a token of this kind, from those before it. Never below 0.
+fn depth_after_kind(depth: u32, kind: TokenKind) -> u32
+    requires { depth ≤ MOST_DEPTH }
+    ensures { result ≡ spec.depth_after_kind depth kind }
 {
     if opens(kind) {
         depth + 1
@@ -140,7 +137,7 @@ fn closes(kind: TokenKind) -> bool
     }
 }
 
-/// How many bytes of blanks and comments stand at the front of a text.
+/// With how many bytes of blanks and comments a text begins.
 fn gap_len(text: &[u8]) -> usize
     ensures exact { result ≡ spec.gap_len text.now }
     ensures within { result ≤ length text.now }
@@ -185,7 +182,7 @@ fn word_kind(word: &[u8]) -> TokenKind
     }
 }
 
-/// The number of the first row that spells the word, where the rows are numbered by their places.
+/// The number of the first row that spells the word, where each row's number is its index.
 fn number_of(rows: &[(&[u8], u8)], word: &[u8]) -> Option<u8>
     requires { map (λ row. row.1) rows.now ≡ range_with_len 0 (length rows.now) }
     ensures { result ≡ position (λ spelling. bytes_eq spelling word.now) (map (λ row. row.0.now) rows.now) }
@@ -201,8 +198,8 @@ fn symbol_at(text: &[u8]) -> Option<(TokenKind, usize)>
     beginning_of(&SYMBOLS, text).map(|(number, size)| (TokenKind::Symbol(number), size))
 }
 
-/// The number and the length of the first row with whose spelling the text begins, where the rows are
-/// numbered by their places.
+/// The number and the length of the first row with whose spelling the text begins, where each row's number
+/// is its index.
 fn beginning_of(rows: &[(&[u8], u8)], text: &[u8]) -> Option<(u8, usize)>
     requires { map (λ row. row.1) rows.now ≡ range_with_len 0 (length rows.now) }
     ensures exact { let spellings = map (λ row. row.0.now) rows.now in
@@ -214,7 +211,7 @@ fn beginning_of(rows: &[(&[u8], u8)], text: &[u8]) -> Option<(u8, usize)>
         .map(|row| (row.1, row.0.len()))
 }
 
-/// How many bytes at the front can stand in a name.
+/// With how many bytes that can stand in a name a text begins.
 fn name_len(text: &[u8]) -> usize
     ensures exact { result ≡ spec.name_len text.now }
     ensures within { result ≤ length text.now }
@@ -222,7 +219,7 @@ fn name_len(text: &[u8]) -> usize
     text.iter().take_while(|b| is_name_byte(**b)).count()
 }
 
-/// How many digits stand at the front.
+/// With how many digits a text begins.
 fn digits_len(text: &[u8]) -> usize
     ensures exact { result ≡ spec.digits_len text.now }
     ensures within { result ≤ length text.now }
@@ -230,7 +227,7 @@ fn digits_len(text: &[u8]) -> usize
     text.iter().take_while(|b| b.is_ascii_digit()).count()
 }
 
-/// The length of the number at the front. A point belongs to it where a digit follows.
+/// The length of the number with which a text begins. A point belongs to it where a digit follows.
 fn number_len(text: &[u8]) -> usize
     ensures exact { result ≡ spec.number_len text.now }
     ensures within { result ≤ length text.now }

@@ -1,10 +1,8 @@
-//! The tokens of a program's text: names, numbers, keywords and symbols, each with its place and its line, or
+//! The tokens of a program's text: names, numbers, keywords and symbols, each with its offsets and its line, or
 //! the first fault in the text. Blanks and comments separate tokens and are none themselves.
 #![tactic(auto)]
 
 mod lexer;
-#[cfg(test)]
-mod tests;
 mod token;
 mod tokens;
 

@@ -17,13 +17,13 @@ pub enum TokenKind {
     End,
 }
 
-/// A token and where it stands.
+/// A token and where it stands, in bytes of the text.
 #[derive(Clone, Copy, Debug, PartialEq, Eq)]
 pub struct Token {
     pub kind: TokenKind,
-    /// The place of its first byte in the text, from 0.
+    /// The offset of its first byte, from 0.
     pub from: u32,
-    /// The place after its last byte.
+    /// The offset after its last byte.
     pub to: u32,
     /// The line of its first byte, from 1.
     pub line: u32,
@@ -32,24 +32,24 @@ pub struct Token {
 /// Why a text has no tokens. Each fault but `Memory` names the first byte of the token where it stands.
 #[derive(Clone, Copy, Debug, PartialEq, Eq, Error)]
 pub enum LexFault {
-    /// No token begins with the byte at this place.
+    /// No token begins with the byte at this offset.
     #[error("bad byte at {at}")]
     BadByte { at: u32 },
-    /// The name at this place has over 64 bytes.
+    /// The name at this offset has more bytes than a name may have.
     #[error("long name at {at}")]
     LongName { at: u32 },
-    /// The token at this place is the 65,537th.
+    /// The token at this offset is the first that is too many.
     #[error("too many tokens at {at}")]
     TooMany { at: u32 },
-    /// The token at this place opens the 65th bracket or block that is open.
+    /// The token at this offset opens one bracket or block more than may be open.
     #[error("too deep at {at}")]
     TooDeep { at: u32 },
-    /// There is no memory for the tokens.
+    /// Out of memory.
     #[error("no memory")]
     Memory,
 }
 
-/// The numbers of the keywords: their places in alphabetical order, from 0.
+/// The numbers of the keywords: their indexes in alphabetical order, from 0.
 pub mod keyword {
     pub const AND: u8 = 0;
 
@@ -116,7 +116,7 @@ pub mod keyword {
     pub const WHILE: u8 = 31;
 }
 
-/// The numbers of the symbols: their places in a list with the longer ones first, from 0.
+/// The numbers of the symbols: their indexes in a list with the longer ones first, from 0.
 pub mod symbol {
     /// `.*`
     pub const ENTRYWISE: u8 = 0;

@@ -11,8 +11,6 @@ mod main_procedure;
 mod parser;
 mod parts;
 mod statements;
-#[cfg(test)]
-mod tests;
 
 pub use parser::parse;
 pub use parts::ParseFault;

@@ -1,6 +1,6 @@
 //! The tree of a program's tokens.
 
-ghost use Rattle.std.specs.Prelude.{◌≡◌, IfOk, IsErrOf, Some, All};
+ghost use Rattle.std.specs.Prelude.{◌≡◌, ◌↔◌, IfOk, IsErrOf, Some, All};
 ghost use Rattle.sim_lexer.specs.Tokens.{IsSpelled, LiesIn};
 ghost use Rattle.sim_parser.specs.Grammar.{Derives, IsUnambiguous};
 ghost use Rattle.sim_parser.specs.ReadProgram as program;
@@ -69,6 +69,8 @@ pub fn parse(alloc: Global, source: &[u8], tokens: &Tokens) -> Result<Program, P
     // The tokens are refused only where no tree is derived.
     ensures refused { IsErrOf result ParseFault.Syntax → (p : tree.Program) → Derives source.now p tokens.now → ⊥ }
     ensures unambiguous { IsUnambiguous source.now }
+    // The reader that the definitions of programs use reads exactly what the grammar derives.
+    ensures reads_grammar { (p : tree.Program) → (program.program_in source.now tokens.now ≡ Some p) ↔ Derives source.now p tokens.now }
     // Which tree it is.
     ensures read { Gives (λ p. p) result (program.program_in source.now tokens.now) }
 {

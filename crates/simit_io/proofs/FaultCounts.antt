@@ -1,4 +1,4 @@
--- What follows for an object that tells no bytes and counts a fault exactly where a call of it fails.
+-- What follows for an object whose bytes are unknown and that counts a fault exactly where a call of it fails.
 use Rattle.std.proofs.Common.{ℕ, List, Result, Ok, Err, None, OnOk, OnErr, arith}
 use Rattle.std.specs.Bool.{⊤}
 use Rattle.std.specs.Io.KnownBytes.{ReadConsumes}

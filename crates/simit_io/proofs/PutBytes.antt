@@ -1,7 +1,7 @@
 -- A piece that is put part by part.
 use Rattle.std.proofs.Common.{◌≡◌, ℕ, ◌∙◌, ap, sym, refl, List, [], ◌++◌, length, ◌-◌, take, drop, append_assoc, append-nil, Option, Some, None}
 use Rattle.std.proofs.lemmas.List.{take-append-drop, take_rest}
-use Rattle.simit_io.specs.Sink.{Puts}
+use Rattle.simit_io.specs.Sink.{Puts, PutsPrefix}
 
 -- what was put of the bytes so far, and what is left of them
 pub record HasPut (old now : Option (List ℕ)) (bytes rest : List ℕ) : Type 0 where
@@ -20,6 +20,17 @@ Puts-append old None (Some now) xs ys p q = absurd q
 pub Puts-nil : (old : Option (List ℕ)) → Puts old old []
 Puts-nil None = tt
 Puts-nil (Some old) = sym (append-nil old)
+
+-- a prefix of a piece, after what comes before that piece
+pub PutsPrefix-append : (old mid new : Option (List ℕ)) (xs ys zs all : List ℕ) → Puts old mid xs → PutsPrefix mid new ys → all ≡ xs ++ ys ++ zs → PutsPrefix old new all
+PutsPrefix-append old mid new xs ys zs all p q e = (
+  xs ++ q.0,
+  (q.1.0 ++ zs, e ∙ ap (λ v. xs ++ v ++ zs) q.1.1 ∙ regroup xs q.0 q.1.0 zs),
+  Puts-append old mid new xs q.0 p q.2,
+)
+  where
+    regroup : (a b c d : List ℕ) → (a ++ (b ++ c)) ++ d ≡ (a ++ b) ++ (c ++ d)
+    regroup a b c d = ap (λ v. v ++ d) (sym (append_assoc a b c)) ∙ append_assoc (a ++ b) c d
 
 pub HasPut-start : (old : Option (List ℕ)) (bytes : List ℕ) → HasPut old old bytes bytes
 HasPut-start old bytes = record { done = []; split = refl; put = Puts-nil old }

@@ -1,11 +1,11 @@
 -- The bytes of a file that are taken part by part.
-use Rattle.std.proofs.Common.{◌≡◌, ℕ, ◌+◌, ◌∙◌, ap, sym, List, ◌++◌, take, drop, append_assoc, append-nil, Option, Some, None}
+use Rattle.std.proofs.Common.{◌≡◌, ℕ, ◌∙◌, ap, sym, List, ◌++◌, length, drop, append_assoc, append-nil, Option, Some, None}
 use Rattle.std.specs.Bool.{⊤}
 use Rattle.std.specs.Io.KnownBytes.{Consumes, IsAtEnd}
-use Rattle.std.proofs.Math.Seq.{take-add}
-use Rattle.simit_io.specs.Inputs.{Files, Reads}
+use Rattle.std.proofs.Math.Seq.{drop-append_seam}
+use Rattle.simit_io.specs.Inputs.{Files, Reads, IsLeftAfter}
 
--- where the files are told, the bytes taken so far and those that are left are the file of that name
+-- where the files are known, the bytes taken so far and those that are left are the file of that name
 abbrev pub IsAt : Option Files → List ℕ → List ℕ → Option (List ℕ) → Type 0
 IsAt None name done left = ⊤
 IsAt (Some files) name done None = ⊥
@@ -25,9 +25,9 @@ IsAt-end None name done left at end = tt
 IsAt-end (Some files) name done None at end = absurd at
 IsAt-end (Some files) name done (Some left) at end = at ∙ ap (λ v. Some (done ++ v)) end ∙ ap Some (append-nil done)
 
--- the same for bytes that stand behind the filled front of a buffer
-pub IsAt-grow : (holds : Option Files) (name old new : List ℕ) (filled size : ℕ) (left now : Option (List ℕ)) → IsAt holds name (take filled old) left
-    → take filled new ≡ take filled old → Consumes left now (take size (drop filled new)) → IsAt holds name (take (filled + size) new) now
-IsAt-grow holds name old new filled size left now h front taken =
-    let before : IsAt holds name (take filled new) left = rw front h in
-    rw take-add (IsAt-take holds name (take filled new) (take size (drop filled new)) left now before taken)
+-- what is left are the bytes after those that were taken
+pub IsAt-after : (holds : Option Files) (name done : List ℕ) (size : ℕ) (left : Option (List ℕ)) → IsAt holds name done left → length done ≡ size → IsLeftAfter holds name size left
+IsAt-after None name done size left at sized = tt
+IsAt-after (Some files) name done size None at sized = absurd at
+IsAt-after (Some files) name done size (Some left) at sized =
+    rw at (ap Some (sym (drop-append_seam done left)) ∙ ap (λ n. Some (drop n (done ++ left))) sized)

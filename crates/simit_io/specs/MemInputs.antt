@@ -2,10 +2,10 @@
 use Rattle.std.specs.Prelude.{◌≡◌, ◌-◌, ◌<◌, ◌≤◌, ℕ, ⊤, min, List, [], length, drop, slice_get, find, bytes_eq, Option, None, Some, option_map, unwrap_or}
 use Rattle.simit_io.specs.Inputs.{Files}
 use Rattle.simit_io.specs.declared.mem_inputs.MemFile.{MemFile}
-use Rattle.simit_io.specs.declared.mem_inputs.Place.{Place}
+use Rattle.simit_io.specs.declared.mem_inputs.OpenFile.{OpenFile}
 
 -- inputs over memory as contracts see them
-pub record Held : Type 0 where
+pub record InputsState : Type 0 where
   pub files : List MemFile
   -- the numbers of the calls that fail
   pub fail : List ℕ
@@ -22,7 +22,7 @@ abbrev pub file_named : List MemFile → Files
 file_named files name = option_map (λ file. file.bytes) (find (λ file. bytes_eq file.name name) files)
 
 -- what no call changes
-pub record IsSameSetting (old new : Held) : Type 0 where
+pub record IsSameSetting (old new : InputsState) : Type 0 where
   pub files : new.files ≡ old.files
   pub fail : new.fail ≡ old.fail
   pub most : new.most ≡ old.most
@@ -31,16 +31,16 @@ pub record IsSameSetting (old new : Held) : Type 0 where
 abbrev pub bytes_at : List MemFile → ℕ → List ℕ
 bytes_at files index = unwrap_or (option_map (λ file. file.bytes) (slice_get files index)) []
 
--- the bytes of the open file from that place on
-abbrev pub left_from : List MemFile → Option Place → List ℕ
-left_from files None = []
-left_from files (Some place) = let bytes = bytes_at files place.file in drop (length bytes - place.left) bytes
+-- the bytes of the open file that are not yet read
+abbrev pub unread_bytes : List MemFile → Option OpenFile → List ℕ
+unread_bytes files None = []
+unread_bytes files (Some file) = let bytes = bytes_at files file.index in drop (length bytes - file.left) bytes
 
--- the place is in a file
-abbrev pub IsInFile : List MemFile → Option Place → Type 0
-IsInFile files None = ⊤
-IsInFile files (Some place) = (place.file < length files) × (place.left ≤ length (bytes_at files place.file))
+-- the open file is one of the files, and no more of it is left than it has
+abbrev pub IsOpenIn : List MemFile → Option OpenFile → Type 0
+IsOpenIn files None = ⊤
+IsOpenIn files (Some file) = (file.index < length files) × (file.left ≤ length (bytes_at files file.index))
 
 -- how many bytes a take that doesn't fail gives for a buffer of that size
-abbrev pub taken_of : Held → ℕ → ℕ
-taken_of held size = min size (min held.most (length held.left))
+abbrev pub taken_of : InputsState → ℕ → ℕ
+taken_of state size = min size (min state.most (length state.left))

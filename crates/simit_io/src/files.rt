@@ -5,7 +5,7 @@ use std::io::Read;
 use std::marker::Model;
 use std::rt;
 
-/// The files of the runtime. They tell no bytes. Every error counts as a fault, a missing file's too;
+/// The files of the runtime. Their bytes are unknown. Every error counts as a fault, a missing file's too;
 /// the count is what contracts see.
 #[derive(Drop)]
 pub struct Files<'a, R: rt::Files> {
@@ -47,6 +47,8 @@ impl<R: rt::Files> Inputs for Files<'_, R> {
     ghost left = { λ _. None };
 
     ghost faults = { λ count. count };
+
+    ghost known_left = { λ _ known. known };
 
     fn open(&mut self, name: &str) -> Result<(), Failed>
         ensures faults { CountsFailure result self.old self.new }
@@ -96,11 +98,14 @@ mod tests {
         let folder = env::temp_dir(&rt)?;
         let name = format!(in alloc; "simit_io-{}", process::id(rt.process()))?;
         let path = folder.join(alloc, name.as_str())?;
-        fs::write(&rt, path.as_str(), "some bytes")?;
+
+        // Several chunks, the last one short.
+        let written: Vec<u8> = (0..250_001u32).map(|k| (k % 251) as u8).collect(alloc)?;
+        fs::write(&rt, path.as_str(), written.as_slice())?;
         let mut inputs = Files::new(&rt);
-        let bytes = read_all(alloc, &mut inputs, path.as_str(), 10)?;
-        assert_eq!(rt; bytes.as_slice(), b"some bytes".as_slice());
-        let longer = read_all(alloc, &mut inputs, path.as_str(), 9);
+        let bytes = read_all(alloc, &mut inputs, path.as_str(), 250_001)?;
+        assert!(rt; bytes.as_slice() == written.as_slice());
+        let longer = read_all(alloc, &mut inputs, path.as_str(), 250_000);
         assert_eq!(rt; longer.err(), Some(ReadAll::TooLong));
         assert_eq!(rt; inputs.fault_count, 0);
 

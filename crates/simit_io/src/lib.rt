@@ -11,15 +11,13 @@ mod plan;
 mod reading;
 mod sink;
 mod stream;
-#[cfg(test)]
-mod tests;
 mod writing;
 
 pub use files::Files;
 pub use inputs::{Failed, Inputs};
 pub use mem_inputs::{MemFile, MemInputs};
-pub use mem_sink::{MemSink, NoMemory};
+pub use mem_sink::MemSink;
 pub use reading::{ReadAll, read_all};
 pub use sink::Sink;
 pub use stream::Stream;
-pub use writing::put_all;
+pub use writing::{put_all, putting_law};

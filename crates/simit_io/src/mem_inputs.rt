@@ -3,8 +3,8 @@ ghost use Rattle.simit_io.specs.MemInputs.{bytes_at, file_named};
 
 use crate::plan::Plan;
 use crate::{Failed, Inputs};
-use ring_words::{L, Text};
 use std::marker::Model;
+use vocabulary::{L, Text};
 
 /// A file that is given whole.
 #[derive(Drop)]
@@ -13,38 +13,38 @@ pub struct MemFile {
     pub bytes: L<u8>,
 }
 
-/// Where reading stands: the open file's index, and how many of its bytes are not yet read.
+/// The file that is open: its index, and how many of its bytes are not yet read.
 #[derive(Clone, Copy)]
-struct Place {
-    file: usize,
+struct OpenFile {
+    index: usize,
     left: usize,
 }
 
-/// Inputs over memory. They tell their files and what is left.
+/// Inputs over memory. Their files and what is left are known.
 #[derive(Drop)]
 pub struct MemInputs {
     files: L<MemFile>,
     most: usize,
     plan: Plan,
-    place: Option<Place>,
+    current: Option<OpenFile>,
 }
 
 impl Model for MemInputs {
     ghost use Rattle.std.specs.Prelude.{◌≤◌};
-    ghost use Rattle.simit_io.specs.MemInputs.{Held, left_from, IsInFile};
+    ghost use Rattle.simit_io.specs.MemInputs.{InputsState, unread_bytes, IsOpenIn};
 
-    ghost Value = { Held };
+    ghost Value = { InputsState };
 
     ghost view = { λ m. record {
       files = m.files;
       fail = m.plan.fail;
       most = m.most;
-      left = left_from m.files m.place;
+      left = unread_bytes m.files m.current;
       calls = m.plan.calls;
       faults = m.plan.faults;
     } };
 
-    ghost invariant = { λ m. (1 ≤ m.most) × IsInFile m.files m.place };
+    ghost invariant = { λ m. (1 ≤ m.most) × IsOpenIn m.files m.current };
 }
 
 impl MemInputs {
@@ -61,7 +61,7 @@ impl MemInputs {
             files,
             most,
             plan: Plan::new(fail),
-            place: None,
+            current: None,
         }
     }
 
@@ -76,22 +76,22 @@ impl MemInputs {
     fn unread(&self) -> &[u8]
         ensures { result.now ≡ self.now.left }
     {
-        match self.place {
+        match self.current {
             None => &[],
-            Some(place) => {
-                let bytes = self.files.items()[place.file].bytes.items();
-                &bytes[bytes.len() - place.left..]
+            Some(file) => {
+                let bytes = self.files.items()[file.index].bytes.items();
+                &bytes[bytes.len() - file.left..]
             }
         }
     }
 
-    /// Goes on behind the next bytes of the open file.
+    /// Goes on after the next bytes of the open file.
     fn skip(&mut self, size: usize)
         requires { size ≤ length self.old.left }
         ensures { self.new ≡ record self.old { left = drop size self.old.left } }
     {
-        if let Some(place) = &mut self.place {
-            place.left -= size;
+        if let Some(file) = &mut self.current {
+            file.left -= size;
         }
     }
 }
@@ -106,7 +106,7 @@ fn first_named(files: &[MemFile], name: &str) -> Option<usize>
 }
 
 impl Inputs for MemInputs {
-    ghost use Rattle.std.specs.Prelude.{◌≡◌, ◌≤◌, ◌++◌, [], ◌&&◌, Some, not, take, drop, length, unwrap_or, is_ok, is_some, if◌then◌else◌, IfOk, OnErr, MatchResult};
+    ghost use Rattle.std.specs.Prelude.{◌≡◌, ◌≤◌, ◌++◌, [], ◌&&◌, refl, Some, not, take, drop, length, unwrap_or, is_ok, is_some, if◌then◌else◌, IfOk, OnErr, MatchResult};
     ghost use Rattle.simit_io.specs.Inputs.{raised};
     ghost use Rattle.simit_io.specs.Plan.{is_planned};
     ghost use Rattle.simit_io.specs.MemInputs.{IsSameSetting, file_named, taken_of};
@@ -116,6 +116,8 @@ impl Inputs for MemInputs {
     ghost left = { λ m. Some m.left };
 
     ghost faults = { λ m. m.faults };
+
+    ghost known_left = { λ _ _. refl };
 
     fn open(&mut self, name: &str) -> Result<(), Failed>
         ensures setting { IsSameSetting self.old self.new }
@@ -128,14 +130,14 @@ impl Inputs for MemInputs {
             ≡ (if is_planned self.old.fail self.old.calls then raised self.old.faults else self.old.faults) }
         ensures counted { self.old.faults ≤ self.new.faults }
     {
-        self.place = None;
+        self.current = None;
         self.plan.begin_call()?;
         let files = self.files.items();
-        let Some(file) = first_named(files, name) else {
+        let Some(index) = first_named(files, name) else {
             return Err(Failed);
         };
-        let left = files[file].bytes.items().len();
-        self.place = Some(Place { file, left });
+        let left = files[index].bytes.items().len();
+        self.current = Some(OpenFile { index, left });
         Ok(())
     }
 

@@ -1,33 +1,27 @@
 use crate::plan::{Plan, raise};
 use crate::{Failed, Sink};
-use ring_words::L;
 use std::alloc::Global;
 use std::marker::Model;
-use thiserror::Error;
+use vocabulary::{L, NoMemory};
 
-/// Out of memory.
-#[derive(Clone, Copy, Debug, PartialEq, Eq, Error)]
-#[error("out of memory")]
-pub struct NoMemory;
-
-/// A sink over memory. It tells what is written.
+/// A sink over memory. What is written is known.
 #[derive(Drop)]
 pub struct MemSink {
     bytes: Vec<u8>,
-    room: usize,
+    capacity: usize,
     most: usize,
     plan: Plan,
 }
 
 impl Model for MemSink {
     ghost use Rattle.std.specs.Prelude.{◌≤◌, vec_len, vec_capacity};
-    ghost use Rattle.simit_io.specs.MemSink.{Kept};
+    ghost use Rattle.simit_io.specs.MemSink.{SinkState};
 
-    ghost Value = { Kept };
+    ghost Value = { SinkState };
 
     ghost view = { λ s. record {
       written = s.bytes.items;
-      room = s.room;
+      capacity = s.capacity;
       fail = s.plan.fail;
       most = s.most;
       calls = s.plan.calls;
@@ -35,24 +29,29 @@ impl Model for MemSink {
     } };
 
     ghost invariant = { λ s.
-        (1 ≤ s.most) × (vec_len s.bytes ≤ s.room) × (s.room ≤ vec_capacity s.bytes) };
+        (1 ≤ s.most) × (vec_len s.bytes ≤ s.capacity) × (s.capacity ≤ vec_capacity s.bytes) };
 }
 
 impl MemSink {
     ghost use Rattle.std.specs.Prelude.{◌≡◌, ◌≤◌, [], IfOk};
 
-    /// A sink with room for so many bytes, which is taken at once. The puts are numbered from 0, and one
-    /// whose number is in `fail` fails. Any other put takes as much of its piece as there is room for,
-    /// but at most `most` bytes, and fails where there is no room for any byte of it. Both count as faults.
-    pub fn new(alloc: Global, room: usize, fail: L<u64>, most: usize) -> Result<MemSink, NoMemory>
+    /// A sink of this capacity, which is reserved at once. The puts are numbered from 0, and one whose
+    /// number is in `fail` fails. Any other put takes as much of its piece as still fits, but at most
+    /// `most` bytes, and fails where no byte of it fits. Both count as faults.
+    pub fn new(
+        alloc: Global,
+        capacity: usize,
+        fail: L<u64>,
+        most: usize,
+    ) -> Result<MemSink, NoMemory>
         requires { 1 ≤ most }
         ensures { IfOk result (λ sink. sink
-            ≡ record { written = []; room = room; fail = fail; most = most; calls = 0; faults = 0 }) }
+            ≡ record { written = []; capacity = capacity; fail = fail; most = most; calls = 0; faults = 0 }) }
     {
-        let bytes = Vec::with_capacity(alloc, room).map_err(|_| NoMemory)?;
+        let bytes = Vec::with_capacity(alloc, capacity).map_err(|_| NoMemory)?;
         Ok(MemSink {
             bytes,
-            room,
+            capacity,
             most,
             plan: Plan::new(fail),
         })
@@ -89,7 +88,10 @@ impl Sink for MemSink {
         ensures counted { self.old.faults ≤ self.new.faults }
     {
         self.plan.begin_call()?;
-        let size = bytes.len().min(self.most).min(self.room - self.bytes.len());
+        let size = bytes
+            .len()
+            .min(self.most)
+            .min(self.capacity - self.bytes.len());
         if size == 0 && !bytes.is_empty() {
             raise(&mut self.plan.faults);
             return Err(Failed);

@@ -3,7 +3,7 @@ ghost use Rattle.simit_io.specs.Inputs.{raised};
 ghost use Rattle.simit_io.specs.Plan.{is_planned};
 
 use crate::Failed;
-use ring_words::L;
+use vocabulary::L;
 
 /// One more; a count at the end of its type stands still.
 pub fn raise(count: &mut u64)

@@ -1,10 +1,11 @@
-ghost use Rattle.std.specs.Prelude.{◌≡◌, ◌⊎◌, ◌+◌, ◌<◌, ◌≤◌, ◌^◌, length, take, drop, vec_len, IfOk, OnOk, OnErr, IsErrOf, IsOkUnless};
+ghost use Rattle.std.specs.Prelude.{◌≡◌, ◌⊎◌, ◌+◌, ◌*◌, ◌<◌, ◌≤◌, ◌^◌, max, min, length, take, vec_len, vec_capacity, IfOk, OnOk, OnErr, IsErrOf, IsOkUnless};
 ghost use Rattle.std.specs.Io.KnownBytes.{Consumes, IsAtEnd};
-ghost use Rattle.simit_io.specs.Inputs.{Rose, IsMissing, Reads, IsLonger};
+ghost use Rattle.simit_io.specs.Inputs.{Rose, IsMissing, Reads, IsLonger, IsLeftAfter};
 
 use crate::{Failed, Inputs};
 use std::alloc::Global;
 use thiserror::Error;
+use vocabulary::append;
 
 /// Why the whole of a file isn't read.
 #[derive(Clone, Copy, Debug, PartialEq, Eq, Error)]
@@ -20,8 +21,8 @@ pub enum ReadAll {
     Memory,
 }
 
-/// All bytes of the file of this name, which are at most `limit`.
-/// After a refusal the inputs stand as the calls of `open` and `take` left them.
+/// All bytes of the file of this name, which are at most `limit`. Their vector reserves at most twice
+/// what it holds. After a refusal the inputs stand as the calls of `open` and `take` left them.
 pub fn read_all<I: Inputs>(
     alloc: Global,
     inputs: &mut I,
@@ -29,10 +30,16 @@ pub fn read_all<I: Inputs>(
     limit: u32,
 ) -> Result<Vec<u8>, ReadAll>
     ensures whole { IfOk result (λ bytes. Reads (I.holds inputs.old) name.now bytes.items) }
+    ensures to_the_end { OnOk result (IsAtEnd (I.left inputs.new)) }
     ensures within { IfOk result (λ bytes. vec_len bytes ≤ limit) }
-    ensures too_long { IsErrOf result ReadAll.TooLong → IsLonger (I.holds inputs.old) name.now limit }
+    ensures capacity { IfOk result (λ bytes. vec_capacity bytes ≤ min limit (2 * vec_len bytes)) }
 
-    // Where the file is missing no other answer comes, not even want of memory.
+    // Of a file that is too long, one byte past the limit is read.
+    ensures too_long { IsErrOf result ReadAll.TooLong → IsLonger (I.holds inputs.old) name.now limit }
+    ensures one_past { IsErrOf result ReadAll.TooLong
+        → IsLeftAfter (I.holds inputs.old) name.now (limit + 1) (I.left inputs.new) }
+
+    // Where the file is missing no other answer comes, not even out of memory.
     ensures missing { IsMissing (I.holds inputs.old) name.now → IsErrOf result ReadAll.Failed }
     ensures failed { IsErrOf result ReadAll.Failed
         → Rose (I.faults inputs.old) (I.faults inputs.new) ⊎ IsMissing (I.holds inputs.old) name.now }
@@ -43,65 +50,58 @@ pub fn read_all<I: Inputs>(
     inputs.open(name).map_err(|_| ReadAll::Failed)?;
     let most = limit as usize;
     let mut bytes = Vec::new(alloc);
-    let mut filled = 0;
-    while filled < most {
-        make_room(&mut bytes, filled, most)?;
-        match take_behind(inputs, &mut bytes, filled) {
-            Ok(0) => {
-                bytes.truncate(filled);
-                return Ok(bytes);
+    let mut chunk = [0; CHUNK];
+    'chunks: loop {
+        // One byte past the limit shows that the file is too long.
+        let wanted = (most + 1 - bytes.len()).min(CHUNK);
+        match take_up_to(inputs, &mut chunk, wanted) {
+            Ok(0) => return Ok(bytes),
+            Ok(size) if size > most - bytes.len() => return Err(ReadAll::TooLong),
+            Ok(size) => {
+                reserve(&mut bytes, size, most)?;
+                append(&chunk[..size], &mut bytes);
             }
-            Ok(size) => filled += size,
             Err(Failed) => return Err(ReadAll::Failed),
         }
     }
-    // One byte more tells whether the file ends at the limit.
-    match inputs.take(&mut [0]) {
-        Ok(0) => Ok(bytes),
-        Ok(_) => Err(ReadAll::TooLong),
-        Err(Failed) => Err(ReadAll::Failed),
-    }
 }
 
-/// By how many bytes the part of the buffer that takes may fill grows at once.
-const STEP: usize = 65536;
+/// The most bytes that one call takes.
+const CHUNK: usize = 65536;
 
-/// Leaves room behind the filled front of a buffer, so that it ends within `most` bytes.
-/// Its capacity about doubles where it has to grow, and never exceeds `most`.
-fn make_room(bytes: &mut Vec<u8>, filled: usize, most: usize) -> Result<(), ReadAll>
-    requires in_buffer { filled ≤ vec_len bytes.old }
-    requires in_limit { vec_len bytes.old ≤ most }
-    requires not_full { filled < most }
-    requires small { most < 2 ^ 32 }
-    ensures memory { IsOkUnless result ReadAll.Memory }
-    ensures room { OnOk result (filled < vec_len bytes.new) }
-    ensures within { OnOk result (vec_len bytes.new ≤ most) }
-    ensures front { OnOk result (take filled bytes.new.items ≡ take filled bytes.old.items) }
-{
-    let len = bytes.len();
-    if filled < len {
-        return Ok(());
-    }
-    let next = most.min(len + STEP);
-    if bytes.capacity() < next {
-        bytes
-            .reserve_exact(most.min(2 * len + STEP) - len)
-            .map_err(|_| ReadAll::Memory)?;
-    }
-    bytes.resize(next, 0).map_err(|_| ReadAll::Memory)
-}
-
-/// Takes into the room behind the filled front of a buffer.
-fn take_behind<I: Inputs>(inputs: &mut I, buf: &mut [u8], filled: usize) -> Result<usize, Failed>
-    requires { filled < length buf.old }
+/// Takes at most so many bytes, to the start of the buffer.
+fn take_up_to<I: Inputs>(inputs: &mut I, buf: &mut [u8], most: usize) -> Result<usize, Failed>
+    requires some { 0 < most }
+    requires in_buffer { most ≤ length buf.old }
     ensures same_files { I.holds inputs.new ≡ I.holds inputs.old }
-    ensures bound { IfOk result (λ size. filled + size ≤ length buf.new) }
-    ensures front { take filled buf.new ≡ take filled buf.old }
+    ensures bound { IfOk result (λ size. size ≤ most) }
     ensures taken { IfOk result (λ size.
-        Consumes (I.left inputs.old) (I.left inputs.new) (take size (drop filled buf.new))) }
+        Consumes (I.left inputs.old) (I.left inputs.new) (take size buf.new)) }
     ensures ended { IfOk result (λ size. size ≡ 0 → IsAtEnd (I.left inputs.new)) }
     ensures failed { OnErr result (Rose (I.faults inputs.old) (I.faults inputs.new)) }
     ensures counted { I.faults inputs.old ≤ I.faults inputs.new }
 {
-    inputs.take(&mut buf[filled..])
+    inputs.take(&mut buf[..most])
+}
+
+/// Gives the buffer the capacity for so many more bytes. Where it has to grow, it grows to twice what
+/// it then holds, but not past `most`, so that all growth together takes linear time.
+fn reserve(bytes: &mut Vec<u8>, additional: usize, most: usize) -> Result<(), ReadAll>
+    requires in_limit { vec_len bytes.old + additional ≤ most }
+    requires small { most < 2 ^ 32 }
+    ensures memory { IsOkUnless result ReadAll.Memory }
+    ensures items { bytes.new.items ≡ bytes.old.items }
+    ensures len { vec_len bytes.new ≡ vec_len bytes.old }
+    ensures capacity { OnOk result (vec_len bytes.old + additional ≤ vec_capacity bytes.new) }
+    ensures bound { OnOk result (vec_capacity bytes.new
+        ≤ max (vec_capacity bytes.old) (min most (2 * (vec_len bytes.old + additional)))) }
+{
+    let len = bytes.len();
+    let needed = len + additional;
+    if needed <= bytes.capacity() {
+        return Ok(());
+    }
+    bytes
+        .reserve_exact(most.min(2 * needed) - len)
+        .map_err(|_| ReadAll::Memory)
 }

@@ -6,7 +6,7 @@ use crate::Failed;
 
 /// What bytes are put to, piece by piece.
 pub trait Sink {
-    /// The bytes that are written so far, where the object tells them.
+    /// The bytes that are written so far, where they are known.
     ghost written: { Self → Option (List ℕ) };
 
     /// How many faults there were.

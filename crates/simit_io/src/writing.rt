@@ -1,4 +1,4 @@
-ghost use Rattle.std.specs.Prelude.{◌≤◌, OnOk, OnErr};
+ghost use Rattle.std.specs.Prelude.{◌≡◌, ◌≤◌, ℕ, List, [], ◌++◌, Option, OnOk, OnErr};
 ghost use Rattle.simit_io.specs.Inputs.{Rose};
 ghost use Rattle.simit_io.specs.Sink.{Puts, PutsPrefix};
 
@@ -18,3 +18,20 @@ pub fn put_all<O: Sink>(sink: &mut O, bytes: &[u8]) -> Result<(), Failed>
     }
     Ok(())
 }
+
+/// What a caller that puts piece by piece needs to know: it has the clauses by calling this, which does nothing.
+pub fn putting_law()
+    // Where nothing was put yet.
+    ensures nothing { (old : Option (List ℕ)) → Puts old old [] }
+
+    // Two pieces that are put one after the other are one piece.
+    ensures appended { (old mid new : Option (List ℕ)) (first second : List ℕ)
+        → Puts old mid first → Puts mid new second → Puts old new (first ++ second) }
+
+    // A prefix of a piece, put after what comes before that piece, is a prefix of all.
+    ensures prefix { (old mid new : Option (List ℕ)) (first second rest all : List ℕ)
+        → Puts old mid first → PutsPrefix mid new second → all ≡ first ++ second ++ rest → PutsPrefix old new all }
+
+    // A fault since a later moment is a fault since an earlier one.
+    ensures fault { (before mid now : ℕ) → before ≤ mid → Rose mid now → Rose before now }
+{}

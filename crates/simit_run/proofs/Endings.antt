@@ -1,53 +1,86 @@
 -- The endings of the top call.
-use Rattle.std.proofs.Common.{◌≡◌, ℕ, List, [], Option, None, Some, Ok, Err, refl, sym, ap}
+use Rattle.std.proofs.Common.{◌≡◌, ℕ, List, [], Option, None, Some, Ok, Err, refl, sym, ap, ◌∙◌}
 use Rattle.std.specs.Prelude.{IfSome}
 use mathlib.Core.Logic.{inl, inr}
 use Rattle.simit_io.specs.Inputs.{Files}
 use Rattle.simit_io.specs.Sink.{Puts, PutsPrefix}
-use Rattle.simit_run.specs.Answer.{first_answer, reads}
-use Rattle.simit_run.specs.Ending.{Ending, IsShown, MayEnd, PutsNote, cut_off, ending_of, note_of, status_of}
-use Rattle.simit_run.specs.Stages.{Stops}
+use Rattle.simit_run.specs.Answer.{answer_of, command_stage}
+use Rattle.simit_run.specs.Command.{Command, command_of}
+use Rattle.simit_run.specs.Ending.{Ending, IsShown, MayEnd, PutsNote, cut_off, ending_of, names_of, note_of, status_of, usage_note}
+use Rattle.simit_run.specs.Shown.{ShowsFailure}
 use Rattle.simit_run.specs.declared.status.Status.{Status}
 use Rattle.simit_run.specs.declared.status.Status.TheVariants as status
-use Rattle.simit_run.specs.declared.stop.Stop.{Stop}
-use Rattle.simit_run.specs.declared.stop.Stop.TheVariants.{Memory, ReadFault, Other}
-use Rattle.simit_run.proofs.Puts.{Puts-nil}
+use Rattle.simit_run.specs.declared.failure.Refusal.TheVariants.{Words}
+use Rattle.simit_run.specs.declared.failure.Failure.{Failure}
+use Rattle.simit_run.specs.declared.failure.Failure.TheVariants.{Memory, ReadFault, Refused}
+
+-- the answer of words that are no command, and of a command
+answer_none : (words : List (List ℕ)) (files : Files) → command_of words ≡ None → (answer_of words).answer files ≡ Err (Refused Words)
+unfolding answer_of
+answer_none words files none = rw none refl
+
+pub answer_command : (words : List (List ℕ)) (command : Command) (files : Files) → command_of words ≡ Some command → (answer_of words).answer files ≡ (command_stage command).answer files
+unfolding answer_of
+answer_command words command files is = rw is refl
+
+reads_command : (words : List (List ℕ)) (command : Command) (files : Files) → command_of words ≡ Some command → (answer_of words).reads files ≡ (command_stage command).reads files
+unfolding answer_of
+reads_command words command files is = rw is refl
 
 -- a way to end that is shown
 abbrev pub Ends : List (List ℕ) → Type 0 → Type 0 → Type 0 → Option (List ℕ) → Option (List ℕ) → Option (List ℕ) → Option (List ℕ) → Status → Files → Type 0
 Ends words inputs_rose out_rose notes_rose out out' notes notes' answered files =
     (ending : Ending) × MayEnd words files inputs_rose out_rose ending × IsShown ending answered out out' notes notes' notes_rose
 
-module _ (told : Option Files) (words : List (List ℕ)) (inputs_rose out_rose notes_rose : Type 0) (out out' notes notes' : Option (List ℕ)) where
-  -- the output was put whole
-  pub ends_done : (text : List ℕ) → IfSome told (λ files. first_answer words files ≡ Ok text) → Puts out out' text → notes' ≡ notes
-      → IfSome told (Ends words inputs_rose out_rose notes_rose out out' notes notes' status.Done)
-  ends_done text given put same = at told given
-    where
-      at : (told : Option Files) → IfSome told (λ files. first_answer words files ≡ Ok text) → IfSome told (Ends words inputs_rose out_rose notes_rose out out' notes notes' status.Done)
-      at None h = tt
-      at (Some files) h = (ending_of words (Ok text), inl (ap (ending_of words) (sym h)), record { status = refl; out = put; note = inl (rw same (Puts-nil notes)) })
+-- nothing was put
+abbrev NothingPut : Type 0
+NothingPut = (old : Option (List ℕ)) → Puts old old []
 
-  -- a front of the output was put
-  pub ends_cut : (text : List ℕ) → IfSome told (λ files. first_answer words files ≡ Ok text) → out_rose → PutsPrefix out out' text → PutsNote notes notes' notes_rose (cut_off []).note
-      → IfSome told (Ends words inputs_rose out_rose notes_rose out out' notes notes' status.WriteFault)
-  ends_cut text given rose put note = at told given
+module _ (nothing : NothingPut) (known : Option Files) (words : List (List ℕ)) (inputs_rose out_rose notes_rose : Type 0) (out out' notes notes' : Option (List ℕ)) where
+  -- the words are no command
+  pub ends_without_command : command_of words ≡ None → out' ≡ out → PutsNote notes notes' notes_rose usage_note
+      → IfSome known (Ends words inputs_rose out_rose notes_rose out out' notes notes' status.Refused)
+  ends_without_command none same note = at known
     where
-      at : (told : Option Files) → IfSome told (λ files. first_answer words files ≡ Ok text) → IfSome told (Ends words inputs_rose out_rose notes_rose out out' notes notes' status.WriteFault)
-      at None h = tt
-      at (Some files) h = (cut_off put.0, inr (inr (inr (text, put.0, rose, h, put.1, refl))), record { status = refl; out = put.2; note = note })
+      shown : (files : Files) → IsShown (ending_of words ((answer_of words).answer files)) status.Refused out out' notes notes' notes_rose
+      shown files = rw (answer_none words files none) (record { status = refl; out = rw same (nothing out); note = note })
 
-  -- there is no output
-  pub ends_stopped : (stop : Stop) → Stops told inputs_rose (first_answer words) (reads words) stop → out' ≡ out → PutsNote notes notes' notes_rose (note_of words stop)
-      → IfSome told (Ends words inputs_rose out_rose notes_rose out out' notes notes' (status_of stop))
-  ends_stopped stop given same note = at told stop given note
-    where
-      shown : (stop : Stop) → PutsNote notes notes' notes_rose (note_of words stop) → IsShown (ending_of words (Err stop)) (status_of stop) out out' notes notes' notes_rose
-      shown stop note = record { status = refl; out = rw same (Puts-nil out); note = note }
+      at : (known : Option Files) → IfSome known (Ends words inputs_rose out_rose notes_rose out out' notes notes' status.Refused)
+      at None = tt
+      at (Some files) = (ending_of words ((answer_of words).answer files), inl refl, shown files)
 
-      at : (told : Option Files) (stop : Stop) → Stops told inputs_rose (first_answer words) (reads words) stop → PutsNote notes notes' notes_rose (note_of words stop) → IfSome told (Ends words inputs_rose out_rose notes_rose out out' notes notes' (status_of stop))
-      at None stop h note = tt
-      at (Some files) Memory h note = (ending_of words (Err Memory), inr (inl refl), shown Memory note)
-      at (Some files) (ReadFault place) (inl e) note = (ending_of words (Err (ReadFault place)), inl (ap (ending_of words) (sym e)), shown (ReadFault place) note)
-      at (Some files) (ReadFault place) (inr w) note = (ending_of words (Err (ReadFault place)), inr (inr (inl (place, w.0, w.1, refl))), shown (ReadFault place) note)
-      at (Some files) (Other r) h note = (ending_of words (Err (Other r)), inl (ap (ending_of words) (sym h)), shown (Other r) note)
+  module _ (command : Command) (is : command_of words ≡ Some command) where
+    -- the output was put whole
+    pub ends_done : (text : List ℕ) → IfSome known (λ files. (command_stage command).answer files ≡ Ok text) → Puts out out' text → notes' ≡ notes
+        → IfSome known (Ends words inputs_rose out_rose notes_rose out out' notes notes' status.Done)
+    ends_done text given put same = at known given
+      where
+        at : (known : Option Files) → IfSome known (λ files. (command_stage command).answer files ≡ Ok text) → IfSome known (Ends words inputs_rose out_rose notes_rose out out' notes notes' status.Done)
+        at None h = tt
+        at (Some files) h = (ending_of words (Ok text), inl (ap (ending_of words) (sym (answer_command words command files is ∙ h))), record { status = refl; out = put; note = inl (rw same (nothing notes)) })
+
+    -- a prefix of the output was put
+    pub ends_cut : (text : List ℕ) → IfSome known (λ files. (command_stage command).answer files ≡ Ok text) → out_rose → PutsPrefix out out' text → PutsNote notes notes' notes_rose (cut_off []).note
+        → IfSome known (Ends words inputs_rose out_rose notes_rose out out' notes notes' status.WriteFault)
+    ends_cut text given rose put note = at known given
+      where
+        at : (known : Option Files) → IfSome known (λ files. (command_stage command).answer files ≡ Ok text) → IfSome known (Ends words inputs_rose out_rose notes_rose out out' notes notes' status.WriteFault)
+        at None h = tt
+        at (Some files) h = (cut_off put.0, inr (inr (inr (text, put.0, rose, answer_command words command files is ∙ h, put.1, refl))), record { status = refl; out = put.2; note = note })
+
+    -- there is no output
+    pub ends_failed : (failure : Failure) → ShowsFailure known inputs_rose (command_stage command) failure → out' ≡ out → PutsNote notes notes' notes_rose (note_of (names_of (Some command)) failure)
+        → IfSome known (Ends words inputs_rose out_rose notes_rose out out' notes notes' (status_of failure))
+    ends_failed failure given same note = at known failure given note
+      where
+        shown : (failure : Failure) → PutsNote notes notes' notes_rose (note_of (names_of (Some command)) failure) → IsShown (ending_of words (Err failure)) (status_of failure) out out' notes notes' notes_rose
+        shown failure note = record { status = refl; out = rw same (nothing out); note = rw is note }
+
+        at : (known : Option Files) (failure : Failure) → ShowsFailure known inputs_rose (command_stage command) failure → PutsNote notes notes' notes_rose (note_of (names_of (Some command)) failure)
+            → IfSome known (Ends words inputs_rose out_rose notes_rose out out' notes notes' (status_of failure))
+        at None failure h note = tt
+        at (Some files) failure (inl e) note = (ending_of words (Err failure), inl (ap (ending_of words) (sym (answer_command words command files is ∙ e))), shown failure note)
+        at (Some files) Memory (inr free) note = (ending_of words (Err Memory), inr (inl refl), shown Memory note)
+        at (Some files) (ReadFault role) (inr free) note =
+            (ending_of words (Err (ReadFault role)), inr (inr (inl (role, free.0, rw (reads_command words command files is) free.1, refl))), shown (ReadFault role) note)
+        at (Some files) (Refused refusal) (inr free) note = absurd free

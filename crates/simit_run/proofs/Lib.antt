@@ -1,8 +1,8 @@
+pub mod StagesShown
 pub mod Runnable
-pub mod WordsRead
-pub mod Puts
-pub mod Texts
+pub mod Reading
 pub mod SetsRead
-pub mod Stages
-pub mod TablesRead
+pub mod Texts
+pub mod Pieces
+pub mod WordsRead
 pub mod Endings

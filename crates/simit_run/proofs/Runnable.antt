@@ -1,13 +1,12 @@
 -- A program of one of the forms can be run.
-use Rattle.std.proofs.Common.{◌≡◌, ◌<◌, ◌^◌, ℕ, List, length, map, get_or, refl, arith}
-use Rattle.std.specs.List.{All}
+use Rattle.std.proofs.Common.{◌≡◌, ◌<◌, ◌^◌, ℕ, List, length, get_or, refl, arith}
 use Rattle.std.proofs.lemmas.List.Elements.{All-map}
 use Rattle.set_tables.specs.declared.schema.Column.{Column}
 use Rattle.global_algebra.specs.Fits.{IsWellFormed}
 use Rattle.global_algebra.specs.declared.program.Program.{Program}
 use Rattle.global_algebra.specs.declared.program.SetDeclaration.{SetDeclaration}
 use Rattle.program_forms.specs.Limits.{IsSmall, IsSmallSet}
-use Rattle.simit_run.specs.Tables.{IsReadable, IsRunnable}
+use Rattle.simit_run.specs.TableContracts.{IsReadable, IsRunnable}
 
 abbrev column : List ℕ → Column
 column field = record { heading = field; scale = 0 }
@@ -20,7 +19,7 @@ is_readable declared small =
     let arity = small.arity in
     record {
       schema = record {
-        few_ends = arity;
+        few_endpoints = arity;
         whole_numbers = All-map (λ (c : Column). c.scale ≡ 0) column declared.fields (λ k d l. refl);
         short_name = omega arith;
         short_headings = All-map (λ (c : Column). length c.heading < 2 ^ 32) column declared.fields (λ k d l. let short = small.fields.short k d l in omega arith);

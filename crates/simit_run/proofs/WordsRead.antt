@@ -1,10 +1,10 @@
 -- The command that words state.
-use Rattle.std.proofs.Common.{◌≡◌, ◌≤◌, List, [], ◌∷◌, length, drop, get_or, map, Option, Some, None, String, Global, string_bytes, refl, arith}
+use Rattle.std.proofs.Common.{◌≡◌, ◌≤◌, List, [], ◌∷◌, length, drop, get_or, map, Some, None, String, Global, string_bytes, refl, arith}
 use Rattle.std.specs.Prelude.{◌&&◌, codes, if◌then◌else◌}
 use Rattle.std.specs.List.{list_all}
 use Rattle.std.specs.Str.{bytes_eq}
 use Rattle.std.proofs.lemmas.List.Folds.{list_all-map}
-use Rattle.simit_run.specs.Answer.{Command, command_of, names_file}
+use Rattle.simit_run.specs.Command.{command_of, names_file}
 
 -- of two words or more
 pub words-read : (words : List (String Global)) (verb program : String Global) → 2 ≤ length words → verb ≡ get_or words 0 verb → program ≡ get_or words 1 program

@@ -1,83 +1,101 @@
 -- How a call of the program may end, and what shows it: the status, the bytes that are put out, and the
 -- line that is put to the notes.
-use Rattle.std.specs.Prelude.{◌≡◌, ◌⊎◌, ◌+◌, ℕ, List, [], ◌∷◌, Option, Result, Ok, Err, codes, Contains, decimal, slice_index_or}
+use Rattle.std.specs.Prelude.{◌≡◌, ◌⊎◌, ℕ, List, [], ◌∷◌, Option, None, Some, Result, Ok, Err, codes, Contains, decimal}
 use Rattle.std.specs.List.{concat}
 use Rattle.simit_io.specs.Inputs.{Files}
 use Rattle.simit_io.specs.Sink.{Puts, PutsPrefix, IsPrefixOf}
-use Rattle.simit_run.specs.Answer.{first_answer, reads}
+use Rattle.simit_run.specs.Answer.{answer_of}
+use Rattle.simit_run.specs.Command.{Command, command_of, file_name}
+use Rattle.simit_run.specs.Stage.{limit_of}
+use Rattle.simit_run.specs.declared.role.FileRole.{FileRole}
+use Rattle.simit_run.specs.declared.role.FileRole.TheVariants as role
 use Rattle.simit_run.specs.declared.status.Status.{Status}
 use Rattle.simit_run.specs.declared.status.Status.TheVariants as status
-use Rattle.simit_run.specs.declared.stop.Place.{Place}
-use Rattle.simit_run.specs.declared.stop.Place.TheVariants as place
-use Rattle.simit_run.specs.declared.stop.Refusal.{Refusal}
-use Rattle.simit_run.specs.declared.stop.Refusal.TheVariants as refusal
-use Rattle.simit_run.specs.declared.stop.Stop.{Stop}
-use Rattle.simit_run.specs.declared.stop.Stop.TheVariants.{Memory, ReadFault, Other}
+use Rattle.simit_run.specs.declared.failure.Refusal.{Refusal}
+use Rattle.simit_run.specs.declared.failure.Refusal.TheVariants as refusal
+use Rattle.simit_run.specs.declared.failure.Failure.{Failure}
+use Rattle.simit_run.specs.declared.failure.Failure.TheVariants.{Memory, ReadFault, Refused}
 
 pub record Ending : Type 0 where
   pub status : Status
   pub out : List ℕ
   pub note : List ℕ
 
--- the name of a file among the words
-abbrev pub file_name : List (List ℕ) → Place → List ℕ
-file_name words place.Program = slice_index_or words 1 []
-file_name words (place.Table number) = slice_index_or words (2 + number) []
+-- the names of the files by their roles; words that are no command name none
+abbrev pub names_of : Option Command → FileRole → List ℕ
+names_of None role = []
+names_of (Some command) role = file_name command role
 
--- how many bytes a file of a place may have, in digits
-abbrev pub limit_text : Place → List ℕ
-limit_text place.Program = codes "1048576"
-limit_text (place.Table number) = codes "67108864"
+-- ---- statuses
 
 abbrev pub refusal_status : Refusal → Status
 refusal_status refusal.Words = status.Refused
-refusal_status (refusal.FileLimit place) = status.Limit
-refusal_status refusal.Program = status.Refused
-refusal_status (refusal.Files files sets) = status.Refused
-refusal_status (refusal.Table number) = status.Refused
+refusal_status (refusal.FileLimit role) = status.Limit
+refusal_status (refusal.Lexical fault) = status.Refused
+refusal_status refusal.Syntax = status.Refused
+refusal_status refusal.Form = status.Refused
+refusal_status (refusal.FileCount files sets) = status.Refused
+refusal_status (refusal.Table number fault) = status.Refused
 
-abbrev pub status_of : Stop → Status
+abbrev pub status_of : Failure → Status
 status_of Memory = status.Memory
-status_of (ReadFault place) = status.ReadFault
-status_of (Other refusal) = refusal_status refusal
+status_of (ReadFault role) = status.ReadFault
+status_of (Refused refusal) = refusal_status refusal
 
--- the note line of a refusal
-abbrev pub refusal_note : List (List ℕ) → Refusal → List ℕ
-refusal_note words refusal.Words = codes "usage: simit run PROGRAM SETS..\n"
-refusal_note words (refusal.FileLimit place) =
-    concat (codes "limit: " ∷ file_name words place ∷ codes " is over " ∷ limit_text place ∷ codes " bytes\n" ∷ [])
-refusal_note words refusal.Program = codes "refused: program\n"
-refusal_note words (refusal.Files files sets) =
+-- ---- note lines
+
+abbrev pub usage_note : List ℕ
+usage_note = codes "usage: simit run PROGRAM SETS..\n"
+
+abbrev pub program_note : List ℕ
+program_note = codes "refused: program\n"
+
+abbrev pub memory_note : List ℕ
+memory_note = codes "no memory\n"
+
+abbrev pub write_fault_note : List ℕ
+write_fault_note = codes "write fault\n"
+
+-- the note line of a refusal, by the names of the files
+abbrev pub refusal_note : (FileRole → List ℕ) → Refusal → List ℕ
+refusal_note names refusal.Words = usage_note
+refusal_note names (refusal.FileLimit role) =
+    concat (codes "limit: " ∷ names role ∷ codes " is over " ∷ decimal (limit_of role) ∷ codes " bytes\n" ∷ [])
+refusal_note names (refusal.Lexical fault) = program_note
+refusal_note names refusal.Syntax = program_note
+refusal_note names refusal.Form = program_note
+refusal_note names (refusal.FileCount files sets) =
     concat (codes "refused: " ∷ decimal files ∷ codes " files for " ∷ decimal sets ∷ codes " sets\n" ∷ [])
-refusal_note words (refusal.Table number) =
-    concat (codes "refused: " ∷ file_name words (place.Table number) ∷ codes ": table\n" ∷ [])
+refusal_note names (refusal.Table number fault) =
+    concat (codes "refused: " ∷ names (role.Table number) ∷ codes ": table\n" ∷ [])
 
 -- the note line of an answer that is no output
-abbrev pub note_of : List (List ℕ) → Stop → List ℕ
-note_of words Memory = codes "no memory\n"
-note_of words (ReadFault place) = concat (codes "read fault: " ∷ file_name words place ∷ codes "\n" ∷ [])
-note_of words (Other refusal) = refusal_note words refusal
+abbrev pub note_of : (FileRole → List ℕ) → Failure → List ℕ
+note_of names Memory = memory_note
+note_of names (ReadFault role) = concat (codes "read fault: " ∷ names role ∷ codes "\n" ∷ [])
+note_of names (Refused refusal) = refusal_note names refusal
+
+-- ---- endings
 
 -- the ending of an answer: an output is put whole and without a note; without one nothing is put out
-abbrev pub ending_of : List (List ℕ) → Result (List ℕ) Stop → Ending
+abbrev pub ending_of : List (List ℕ) → Result (List ℕ) Failure → Ending
 ending_of words (Ok text) = record { status = status.Done; out = text; note = [] }
-ending_of words (Err stop) = record { status = status_of stop; out = []; note = note_of words stop }
+ending_of words (Err failure) = record { status = status_of failure; out = []; note = note_of (names_of (command_of words)) failure }
 
--- the ending of an output of which only a front could be put
+-- the ending of an output of which only a prefix could be put
 abbrev pub cut_off : List ℕ → Ending
-cut_off front = record { status = status.WriteFault; out = front; note = codes "write fault\n" }
+cut_off prefix = record { status = status.WriteFault; out = prefix; note = write_fault_note }
 
--- The endings that are allowed, where the inputs hold these files: the answer's own; for want of memory; by a
--- counted fault at one of the files that are come to be read; or, where the answer is an output, by a counted
--- fault of the sink.
+-- The endings that are allowed, where the inputs hold these files: the answer's own; out of memory; a counted fault at
+-- one of the files that the answer comes to read; or, where the answer is an output, a counted fault of the sink.
 abbrev pub MayEnd : List (List ℕ) → Files → Type 0 → Type 0 → Ending → Type 0
 MayEnd words files inputs_rose out_rose ending =
-    (ending ≡ ending_of words (first_answer words files))
+    (ending ≡ ending_of words ((answer_of words).answer files))
     ⊎ (ending ≡ ending_of words (Err Memory))
-    ⊎ ((place : Place) × inputs_rose × Contains (reads words files) place × (ending ≡ ending_of words (Err (ReadFault place))))
-    ⊎ ((text front : List ℕ) × out_rose × (first_answer words files ≡ Ok text) × IsPrefixOf front text × (ending ≡ cut_off front))
+    ⊎ ((role : FileRole) × inputs_rose × Contains ((answer_of words).reads files) role × (ending ≡ ending_of words (Err (ReadFault role))))
+    ⊎ ((text prefix : List ℕ) × out_rose × ((answer_of words).answer files ≡ Ok text) × IsPrefixOf prefix text × (ending ≡ cut_off prefix))
 
--- A note line was put: whole, or a front of it where a fault of the notes was counted.
+-- A note line was put: whole, or a prefix of it where a fault of the notes was counted.
 abbrev pub PutsNote : Option (List ℕ) → Option (List ℕ) → Type 0 → List ℕ → Type 0
 PutsNote old new rose note = Puts old new note ⊎ (rose × PutsPrefix old new note)
 

@@ -1,8 +1,8 @@
-pub mod Front
 pub mod Status
+pub mod Command
+pub mod Stage
+pub mod ProgramText
 pub mod Answer
 pub mod Ending
-pub mod Command
-pub mod Stages
-pub mod Tables
-pub mod Written
+pub mod Shown
+pub mod TableContracts

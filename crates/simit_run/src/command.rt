@@ -2,8 +2,11 @@
 
 ghost use Rattle.std.specs.Prelude.{◌≡◌, option_map, map, string_bytes};
 ghost use Rattle.std.specs.List.{list_all};
-ghost use Rattle.simit_run.specs.Answer.{names_file, command_of};
-ghost use Rattle.simit_run.specs.Command.{shown};
+ghost use Rattle.simit_run.specs.Command as spec;
+ghost use Rattle.simit_run.specs.Shown.{shown};
+
+use crate::role::FileRole;
+use vocabulary::marks::MINUS;
 
 /// What the words ask for: to run the program of one file on the tables of others.
 #[derive(Clone, Copy)]
@@ -14,26 +17,45 @@ pub struct Command<'a> {
     pub tables: &'a [String],
 }
 
+impl<'a> Command<'a> {
+    ghost use Rattle.std.specs.Prelude.{◌≡◌};
+    ghost use Rattle.simit_run.specs.Command as spec;
+    ghost use Rattle.simit_run.specs.Shown.{shown};
+
+    /// The name of the file of a role, empty where there are too few.
+    pub fn file_name(self, role: FileRole) -> &'a str
+        ensures { result.now ≡ spec.file_name (shown self.entry) role }
+    {
+        match role {
+            FileRole::Program => self.program,
+            FileRole::Table(number) => match self.tables.get(number as usize) {
+                Some(name) => name.as_str(),
+                None => "",
+            },
+        }
+    }
+}
+
 /// Whether a word can name a file: it is not empty and begins with no minus.
 fn names_file(word: &str) -> bool
-    ensures { result ≡ names_file word.now }
+    ensures { result ≡ spec.names_file word.now }
 {
     match word.as_bytes() {
         [] => false,
-        [first, ..] => *first != b'-',
+        [first, ..] => *first != MINUS,
     }
 }
 
 /// Whether each word can name a file.
 fn name_files(words: &[String]) -> bool
-    ensures { result ≡ list_all (λ word. names_file (string_bytes word)) words.now }
+    ensures { result ≡ list_all (λ word. spec.names_file (string_bytes word)) words.now }
 {
     words.iter().all(|word| names_file(word.as_str()))
 }
 
 /// The command that the words state: `run PROGRAM SETS..`.
 pub fn read_words(words: &[String]) -> Option<Command<'_>>
-    ensures { option_map shown result ≡ command_of (map string_bytes words.now) }
+    ensures { option_map shown result ≡ spec.command_of (map string_bytes words.now) }
 {
     match words {
         [verb, program, tables @ ..] => {

@@ -3,15 +3,14 @@
 
 mod answering;
 mod command;
+mod failure;
 mod file;
 mod front;
 mod note;
 mod output;
+mod role;
 mod status;
-mod stop;
 mod tables;
-#[cfg(test)]
-mod tests;
 mod top_call;
 mod writing;
 

@@ -1,18 +1,26 @@
 //! The note lines. A line is put in pieces, so that it takes no memory.
 
-ghost use Rattle.std.specs.Prelude.{◌≡◌, [], ◌∷◌, map, string_bytes, codes, decimal};
+ghost use Rattle.std.specs.Prelude.{◌≡◌, ◌≤◌, [], ◌∷◌, map, codes, decimal};
 ghost use Rattle.std.specs.List.{concat};
 ghost use Rattle.simit_io.specs.Inputs.{Rose};
-ghost use Rattle.simit_run.specs.Ending.{note_of, refusal_note, file_name, limit_text, PutsNote};
+ghost use Rattle.simit_run.specs.Command.{file_name};
+ghost use Rattle.simit_run.specs.Ending.{PutsNote, memory_note, note_of, program_note, refusal_note, usage_note, write_fault_note};
+ghost use Rattle.simit_run.specs.Shown.{shown};
+ghost use Rattle.simit_run.specs.Stage as stage;
 
-use crate::stop::{Place, Refusal, Stop};
+use crate::command::Command;
+use crate::failure::{Failure, Refusal};
+use crate::file::limit_of;
+use crate::role::FileRole;
 use itoa::Buffer;
-use simit_io::{Sink, put_all};
+use simit_io::{Sink, put_all, putting_law};
 
-/// Puts pieces one after the other, up to the first that the sink doesn't take whole.
+/// Puts pieces one after another, up to the first that the sink doesn't take whole.
 fn put_pieces<N: Sink>(notes: &mut N, pieces: &[&str])
-    ensures { PutsNote (N.written notes.old) (N.written notes.new) (Rose (N.faults notes.old) (N.faults notes.new)) (concat (map (λ p. p.now) pieces.now)) }
+    ensures note { PutsNote (N.written notes.old) (N.written notes.new) (Rose (N.faults notes.old) (N.faults notes.new)) (concat (map (λ p. p.now) pieces.now)) }
+    ensures counted { N.faults notes.old ≤ N.faults notes.new }
 {
+    putting_law();
     for piece in pieces {
         if put_all(notes, piece.as_bytes()).is_err() {
             return;
@@ -20,48 +28,44 @@ fn put_pieces<N: Sink>(notes: &mut N, pieces: &[&str])
     }
 }
 
-/// Puts a line about a file.
-fn put_about<'a, N: Sink>(notes: &mut N, front: &'a str, name: &'a str, behind: &'a str)
-    ensures { PutsNote (N.written notes.old) (N.written notes.new) (Rose (N.faults notes.old) (N.faults notes.new)) (concat (front.now ∷ name.now ∷ behind.now ∷ [])) }
+/// Puts a line of three pieces.
+fn put_three<'a, N: Sink>(notes: &mut N, a: &'a str, b: &'a str, c: &'a str)
+    ensures note { PutsNote (N.written notes.old) (N.written notes.new) (Rose (N.faults notes.old) (N.faults notes.new)) (concat (a.now ∷ b.now ∷ c.now ∷ [])) }
+    ensures counted { N.faults notes.old ≤ N.faults notes.new }
 {
-    put_pieces(notes, &[front, name, behind]);
+    put_pieces(notes, &[a, b, c]);
 }
 
 /// Puts a line of five pieces.
 fn put_five<'a, N: Sink>(notes: &mut N, a: &'a str, b: &'a str, c: &'a str, d: &'a str, e: &'a str)
-    ensures { PutsNote (N.written notes.old) (N.written notes.new) (Rose (N.faults notes.old) (N.faults notes.new)) (concat (a.now ∷ b.now ∷ c.now ∷ d.now ∷ e.now ∷ [])) }
+    ensures note { PutsNote (N.written notes.old) (N.written notes.new) (Rose (N.faults notes.old) (N.faults notes.new)) (concat (a.now ∷ b.now ∷ c.now ∷ d.now ∷ e.now ∷ [])) }
+    ensures counted { N.faults notes.old ≤ N.faults notes.new }
 {
     put_pieces(notes, &[a, b, c, d, e]);
 }
 
-/// The name of a file among the words, empty where there are too few.
-fn file_name(words: &[String], place: Place) -> &str
-    ensures { result.now ≡ file_name (map string_bytes words.now) place }
+/// Puts the line of a file with too many bytes.
+fn put_limit<N: Sink>(notes: &mut N, name: &str, role: FileRole)
+    ensures note { PutsNote (N.written notes.old) (N.written notes.new) (Rose (N.faults notes.old) (N.faults notes.new))
+        (concat (codes "limit: " ∷ name.now ∷ codes " is over " ∷ decimal (stage.limit_of role) ∷ codes " bytes\n" ∷ [])) }
+    ensures counted { N.faults notes.old ≤ N.faults notes.new }
 {
-    let index = match place {
-        Place::Program => 1,
-        Place::Table(number) => 2 + number as usize,
-    };
-    match words.get(index) {
-        Some(word) => word.as_str(),
-        None => "",
-    }
-}
-
-/// How many bytes a file of a place may have, in digits.
-fn limit_text(place: Place) -> &'static str
-    ensures { result.now ≡ limit_text place }
-{
-    match place {
-        Place::Program => "1048576",
-        Place::Table(_) => "67108864",
-    }
+    let mut limit = Buffer::new();
+    put_five(
+        notes,
+        "limit: ",
+        name,
+        " is over ",
+        limit.format(limit_of(role)),
+        " bytes\n",
+    );
 }
 
 /// Puts the line of another number of tables than of sets.
-fn put_files<N: Sink>(notes: &mut N, files: usize, sets: usize)
-    ensures { PutsNote (N.written notes.old) (N.written notes.new) (Rose (N.faults notes.old) (N.faults notes.new))
+fn put_file_count<N: Sink>(notes: &mut N, files: usize, sets: usize)
+    ensures note { PutsNote (N.written notes.old) (N.written notes.new) (Rose (N.faults notes.old) (N.faults notes.new))
         (concat (codes "refused: " ∷ decimal files ∷ codes " files for " ∷ decimal sets ∷ codes " sets\n" ∷ [])) }
+    ensures counted { N.faults notes.old ≤ N.faults notes.new }
 {
     let mut of_files = Buffer::new();
     let mut of_sets = Buffer::new();
@@ -75,48 +79,51 @@ fn put_files<N: Sink>(notes: &mut N, files: usize, sets: usize)
     );
 }
 
+/// Puts the line of words that are no command.
+pub fn put_usage<N: Sink>(notes: &mut N)
+    ensures note { PutsNote (N.written notes.old) (N.written notes.new) (Rose (N.faults notes.old) (N.faults notes.new)) usage_note }
+    ensures counted { N.faults notes.old ≤ N.faults notes.new }
+{
+    put_pieces(notes, &["usage: simit run PROGRAM SETS..\n"]);
+}
+
 /// Puts the line of a refusal.
-fn put_refusal<N: Sink>(notes: &mut N, words: &[String], refusal: Refusal)
-    ensures { PutsNote (N.written notes.old) (N.written notes.new) (Rose (N.faults notes.old) (N.faults notes.new)) (refusal_note (map string_bytes words.now) refusal) }
+fn put_refusal<N: Sink>(notes: &mut N, command: Command<'_>, refusal: Refusal)
+    ensures note { PutsNote (N.written notes.old) (N.written notes.new) (Rose (N.faults notes.old) (N.faults notes.new)) (refusal_note (file_name (shown command.entry)) refusal) }
+    ensures counted { N.faults notes.old ≤ N.faults notes.new }
 {
     match refusal {
-        Refusal::Words => put_pieces(notes, &["usage: simit run PROGRAM SETS..\n"]),
-        Refusal::FileLimit(place) => {
-            let name = file_name(words, place);
-            put_five(
-                notes,
-                "limit: ",
-                name,
-                " is over ",
-                limit_text(place),
-                " bytes\n",
-            );
+        Refusal::Words => put_usage(notes),
+        Refusal::FileLimit(role) => put_limit(notes, command.file_name(role), role),
+        Refusal::Lexical(_) | Refusal::Syntax | Refusal::Form => {
+            put_pieces(notes, &["refused: program\n"]);
         }
-        Refusal::Program => put_pieces(notes, &["refused: program\n"]),
-        Refusal::Files { files, sets } => put_files(notes, files, sets),
-        Refusal::Table(number) => put_about(
+        Refusal::FileCount { files, sets } => put_file_count(notes, files, sets),
+        Refusal::Table { set, fault: _ } => put_three(
             notes,
             "refused: ",
-            file_name(words, Place::Table(number)),
+            command.file_name(FileRole::Table(set)),
             ": table\n",
         ),
     }
 }
 
 /// Puts the note line of an answer that is no output, as far as the sink takes it.
-pub fn put_note<N: Sink>(notes: &mut N, words: &[String], stop: Stop)
-    ensures { PutsNote (N.written notes.old) (N.written notes.new) (Rose (N.faults notes.old) (N.faults notes.new)) (note_of (map string_bytes words.now) stop) }
+pub fn put_note<N: Sink>(notes: &mut N, command: Command<'_>, failure: Failure)
+    ensures note { PutsNote (N.written notes.old) (N.written notes.new) (Rose (N.faults notes.old) (N.faults notes.new)) (note_of (file_name (shown command.entry)) failure) }
+    ensures counted { N.faults notes.old ≤ N.faults notes.new }
 {
-    match stop {
-        Stop::Memory => put_pieces(notes, &["no memory\n"]),
-        Stop::ReadFault(place) => put_about(notes, "read fault: ", file_name(words, place), "\n"),
-        Stop::Other(refusal) => put_refusal(notes, words, refusal),
+    match failure {
+        Failure::Memory => put_pieces(notes, &["no memory\n"]),
+        Failure::ReadFault(role) => put_three(notes, "read fault: ", command.file_name(role), "\n"),
+        Failure::Refused(refusal) => put_refusal(notes, command, refusal),
     }
 }
 
 /// Puts the note line of an output that can't be put whole, as far as the sink takes it.
 pub fn put_write_fault<N: Sink>(notes: &mut N)
-    ensures { PutsNote (N.written notes.old) (N.written notes.new) (Rose (N.faults notes.old) (N.faults notes.new)) (codes "write fault\n") }
+    ensures note { PutsNote (N.written notes.old) (N.written notes.new) (Rose (N.faults notes.old) (N.faults notes.new)) write_fault_note }
+    ensures counted { N.faults notes.old ≤ N.faults notes.new }
 {
     put_pieces(notes, &["write fault\n"]);
 }

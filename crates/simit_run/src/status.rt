@@ -5,7 +5,7 @@
 pub enum Status {
     /// The output is whole.
     Done,
-    /// Memory was wanting.
+    /// Out of memory.
     Memory,
     /// The words, the program or a table are refused.
     Refused,

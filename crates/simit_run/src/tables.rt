@@ -1,59 +1,55 @@
-//! Reads the tables of a program's sets, one after the other, each over those that were read before it.
+//! Reads the tables of a program's sets, one after another, each over those that were read before it.
 
-ghost use Rattle.std.specs.Prelude.{◌≡◌, ◌<◌, ◌≤◌, ◌↔◌, ◌∷◌, [], IfOk, IfSome, IsNone, map, string_bytes, length, drop};
+ghost use Rattle.std.specs.Prelude.{◌≡◌, ◌<◌, ◌≤◌, ◌↔◌, [], IfOk, IfSome, IsNone, map, string_bytes, length};
 ghost use Rattle.std.specs.List.{zip};
+ghost use Rattle.vocabulary.specs.Answers.{Answers};
 ghost use Rattle.simit_io.specs.Inputs.{Rose};
-ghost use Rattle.hypergraph.specs.SetShape.{EndsBelow};
-ghost use Rattle.hypergraph.specs.Sets.{count_over, most_sets};
+ghost use Rattle.hypergraph.specs.SetValue.{EndpointsBelow};
+ghost use Rattle.hypergraph.specs.Sets.{count_over};
 ghost use Rattle.global_algebra.specs.Fits.{IsAsDeclared};
 ghost use Rattle.simit_run.specs.Answer as spec;
-ghost use Rattle.simit_run.specs.Stages.{Shows};
-ghost use Rattle.simit_run.specs.Tables.{AreRead, IsReadable, IsRunnable};
-ghost use Rattle.simit_run.specs.declared.stop.Place.TheVariants as place;
+ghost use Rattle.simit_run.specs.Stage.{fold_stages, refused};
+ghost use Rattle.simit_run.specs.Shown.{Shows};
+ghost use Rattle.simit_run.specs.TableContracts.{AreRead, IsReadable, IsRunnable};
 
+use crate::failure::{Failure, Refusal};
 use crate::file::read_file;
-use crate::stop::{Place, Refusal, Stop};
+use crate::role::FileRole;
 use global_algebra::{Program, SetDeclaration};
 use hypergraph::SetData;
-use ring_words::{L, Text};
 use set_tables::{Column, Schema, TableFault, read_table};
 use simit_io::Inputs;
-use std::alloc::{AllocError, Global};
-
-/// A copy of a text.
-fn copy_of(alloc: Global, text: &Text) -> Result<Text, AllocError>
-    ensures { IfOk result (λ copy. copy ≡ text.now) }
-{
-    Ok(Text::of(String::from_str(alloc, text.as_str())?))
-}
+use std::alloc::Global;
+use vocabulary::limits::{MOST_SETS, MOST_TABLE_BYTES};
+use vocabulary::{L, NoMemory};
 
 /// The schema of a declared set: a column of whole numbers for each field.
-fn schema_of(alloc: Global, declared: &SetDeclaration) -> Result<Schema, AllocError>
+fn schema_of(alloc: Global, declared: &SetDeclaration) -> Result<Schema, NoMemory>
     ensures { IfOk result (λ schema. schema ≡ spec.schema_of declared.now) }
 {
-    let mut columns = Vec::new(alloc);
+    let mut columns = L::empty(alloc);
     for field in declared.fields.items() {
         columns.push(Column {
-            heading: copy_of(alloc, field)?,
+            heading: field.copy(alloc)?,
             scale: 0,
         })?;
     }
     Ok(Schema {
-        name: copy_of(alloc, &declared.name)?,
+        name: declared.name.copy(alloc)?,
         arity: declared.arity,
-        columns: L::of(columns),
+        columns,
     })
 }
 
 /// The schemas of declared sets.
-pub fn schemas_of(alloc: Global, sets: &[SetDeclaration]) -> Result<Vec<Schema>, AllocError>
+pub fn schemas_of(alloc: Global, sets: &[SetDeclaration]) -> Result<Vec<Schema>, NoMemory>
     ensures { IfOk result (λ schemas. schemas.items ≡ map spec.schema_of sets.now) }
 {
-    let mut schemas = Vec::with_capacity(alloc, sets.len())?;
+    let mut schemas = L::empty(alloc);
     for declared in sets {
         schemas.push(schema_of(alloc, declared)?)?;
     }
-    Ok(schemas)
+    Ok(schemas.into_vec())
 }
 
 /// How many elements the set has in which endpoints lie; 0 where there are none.
@@ -67,7 +63,36 @@ fn bound_over(sets: &[SetData], over: Option<u32>) -> u32
     }
 }
 
-/// The set that the file of a table states, behind the sets that were read before it.
+/// The set that the bytes of a table state, after the sets that were read before it.
+fn set_in(
+    alloc: Global,
+    declared: &SetDeclaration,
+    schema: &Schema,
+    sets: &[SetData],
+    bytes: &[u8],
+) -> Result<SetData, Failure>
+    requires schema { schema.now ≡ spec.schema_of declared.now }
+    requires readable { IsReadable declared.now }
+    requires over_none { IsNone declared.now.over ↔ (declared.now.arity ≡ 0) }
+    requires over { IfSome declared.now.over (λ over. over < length sets.now) }
+    requires few { length sets.now ≤ MOST_SETS }
+    requires size { length bytes.now ≤ MOST_TABLE_BYTES }
+    ensures value { Answers Failure.Memory (refused (spec.set_in sets.now declared.now bytes.now)) result }
+    ensures declared { IfOk result (λ set. IsAsDeclared set declared.now) }
+    ensures endpoints_below { IfOk result (λ set. EndpointsBelow set (count_over sets.now declared.now.over)) }
+{
+    let bound = bound_over(sets, declared.over);
+    match read_table(alloc, schema, declared.over, bound, bytes) {
+        Ok(set) => Ok(set),
+        Err(TableFault::Memory) => Err(Failure::Memory),
+        Err(fault) => Err(Failure::Refused(Refusal::Table {
+            set: sets.len() as u32,
+            fault,
+        })),
+    }
+}
+
+/// The set that the file of the next table states, after the sets that were read before it.
 fn read_set<I: Inputs>(
     alloc: Global,
     inputs: &mut I,
@@ -75,58 +100,50 @@ fn read_set<I: Inputs>(
     schema: &Schema,
     name: &str,
     sets: &[SetData],
-) -> Result<SetData, Stop>
+) -> Result<SetData, Failure>
     requires schema { schema.now ≡ spec.schema_of declared.now }
     requires readable { IsReadable declared.now }
     requires over_none { IsNone declared.now.over ↔ (declared.now.arity ≡ 0) }
     requires over { IfSome declared.now.over (λ over. over < length sets.now) }
-    requires few { length sets.now ≤ most_sets }
+    requires few { length sets.now ≤ MOST_SETS }
     ensures shows { Shows (λ set. set) (I.holds inputs.old) (Rose (I.faults inputs.old) (I.faults inputs.new))
-        (spec.set_stage (declared.now, name.now) sets.now) (λ files. place.Table (length sets.now) ∷ []) result }
+        (spec.set_stage sets.now (declared.now, name.now)) result }
     ensures declared { IfOk result (λ set. IsAsDeclared set declared.now) }
-    ensures ends_below { IfOk result (λ set. EndsBelow set (count_over sets.now declared.now.over)) }
+    ensures endpoints_below { IfOk result (λ set. EndpointsBelow set (count_over sets.now declared.now.over)) }
     ensures same_files { I.holds inputs.new ≡ I.holds inputs.old }
     ensures counted { I.faults inputs.old ≤ I.faults inputs.new }
 {
-    let number = sets.len() as u32;
-    let bound = bound_over(sets, declared.over);
-    let bytes = read_file(alloc, inputs, name, Place::Table(number))?;
-    match read_table(alloc, schema, declared.over, bound, &bytes) {
-        Ok(set) => Ok(set),
-        Err(TableFault::Bad) => Err(Stop::Other(Refusal::Table(number))),
-        Err(TableFault::Memory) => Err(Stop::Memory),
-    }
+    let role = FileRole::Table(sets.len() as u32);
+    let bytes = read_file(alloc, inputs, name, role)?;
+    let set = set_in(alloc, declared, schema, sets, &bytes)?;
+    Ok(set)
 }
 
-/// The sets that the files of a program's tables state, the first of which were read already.
+/// The sets that the files of a program's tables state.
 pub fn read_sets<I: Inputs>(
     alloc: Global,
     inputs: &mut I,
     program: &Program,
     schemas: &[Schema],
     names: &[String],
-    mut sets: Vec<SetData>,
-) -> Result<Vec<SetData>, Stop>
+) -> Result<Vec<SetData>, Failure>
     requires runnable { IsRunnable program.now }
     requires schemas { schemas.now ≡ map spec.schema_of program.now.sets }
     requires names { length names.now ≡ length program.now.sets }
-    requires read { AreRead program.now sets.items }
-    ensures shows { Shows (λ all. all.items) (I.holds inputs.old) (Rose (I.faults inputs.old) (I.faults inputs.new))
-        (spec.sets_stage (drop (length sets.items) (zip program.now.sets (map string_bytes names.now))) sets.items)
-        (spec.sets_reads (drop (length sets.items) (zip program.now.sets (map string_bytes names.now))) sets.items) result }
-    ensures read { IfOk result (λ all. AreRead program.now all.items) }
-    ensures all { IfOk result (λ all. length all.items ≡ length program.now.sets) }
+    ensures shows { Shows (λ sets. sets.items) (I.holds inputs.old) (Rose (I.faults inputs.old) (I.faults inputs.new))
+        (fold_stages spec.with_set [] (zip program.now.sets (map string_bytes names.now))) result }
+    ensures read { IfOk result (λ sets. AreRead program.now sets.items) }
+    ensures all { IfOk result (λ sets. length sets.items ≡ length program.now.sets) }
     ensures same_files { I.holds inputs.new ≡ I.holds inputs.old }
     ensures counted { I.faults inputs.old ≤ I.faults inputs.new }
 {
-    let number = sets.len();
-    if number == program.sets.items().len() {
-        return Ok(sets);
+    let declarations = program.sets.items();
+    let mut sets = Vec::new(alloc);
+    for number in 0..declarations.len() {
+        let declared = &declarations[number];
+        let name = names[number].as_str();
+        let set = read_set(alloc, inputs, declared, &schemas[number], name, &sets)?;
+        sets.push(set).map_err(|_| Failure::Memory)?;
     }
-    let declared = &program.sets.items()[number];
-    let name = names[number].as_str();
-    let set = read_set(alloc, inputs, declared, &schemas[number], name, &sets)?;
-    sets.push(set).map_err(|_| Stop::Memory)?;
-    let all = read_sets(alloc, inputs, program, schemas, names, sets)?;
-    Ok(all)
+    Ok(sets)
 }

@@ -1,15 +1,16 @@
 //! The top call: all that the program does, over the inputs and sinks that are handed in.
 
-ghost use Rattle.std.specs.Prelude.{◌≡◌, ◌≢◌, IfSome, IfNone, map, string_bytes, None};
-ghost use Rattle.simit_io.specs.Inputs.{Rose};
-ghost use Rattle.simit_run.specs.Answer.{command_of};
-ghost use Rattle.simit_run.specs.Ending.{Ending, IsShown, MayEnd, refusal_status, status_of};
+ghost use Rattle.std.specs.Prelude.{◌≡◌, ◌≢◌, ◌≤◌, IfSome, IfNone, Some, None, map, string_bytes};
+ghost use Rattle.simit_io.specs.Inputs.{Rose, IsMissing};
+ghost use Rattle.simit_run.specs.Command as stated;
+ghost use Rattle.simit_run.specs.Ending.{Ending, IsShown, MayEnd, PutsNote, memory_note, refusal_status, status_of, usage_note, write_fault_note};
 
 use crate::answering::answer;
-use crate::note::{put_note, put_write_fault};
+use crate::command::read_words;
+use crate::failure::{Failure, Refusal};
+use crate::note::{put_note, put_usage, put_write_fault};
 use crate::status::Status;
-use crate::stop::{Refusal, Stop};
-use simit_io::{Failed, Inputs, Sink};
+use simit_io::{Failed, Inputs, Sink, putting_law};
 use std::alloc::Global;
 
 /// The status of a refusal.
@@ -18,20 +19,23 @@ fn refusal_status(refusal: Refusal) -> Status
 {
     match refusal {
         Refusal::FileLimit(_) => Status::Limit,
-        Refusal::Words | Refusal::Program | Refusal::Files { .. } | Refusal::Table(_) => {
-            Status::Refused
-        }
+        Refusal::Words
+        | Refusal::Lexical(_)
+        | Refusal::Syntax
+        | Refusal::Form
+        | Refusal::FileCount { .. }
+        | Refusal::Table { .. } => Status::Refused,
     }
 }
 
 /// The status of an answer that is no output.
-fn status_of(stop: Stop) -> Status
-    ensures { result ≡ status_of stop }
+fn status_of(failure: Failure) -> Status
+    ensures { result ≡ status_of failure }
 {
-    match stop {
-        Stop::Memory => Status::Memory,
-        Stop::ReadFault(_) => Status::ReadFault,
-        Stop::Other(refusal) => refusal_status(refusal),
+    match failure {
+        Failure::Memory => Status::Memory,
+        Failure::ReadFault(_) => Status::ReadFault,
+        Failure::Refused(refusal) => refusal_status(refusal),
     }
 }
 
@@ -47,19 +51,36 @@ pub fn run<I: Inputs, O: Sink, N: Sink>(
     out: &mut O,
     notes: &mut N,
 ) -> Status
-    // Where the inputs tell their files, the call ends as the program's answer to the words and these files,
-    // or for want of memory, or by a counted fault.
+    // Where the inputs' files are known, the call ends as the program's answer to the words and these files,
+    // or out of memory, or by a counted fault.
     ensures ending { IfSome (I.holds inputs.old) (λ files. (ending : Ending)
         × MayEnd (map string_bytes words.now) files (Rose (I.faults inputs.old) (I.faults inputs.new)) (Rose (O.faults out.old) (O.faults out.new)) ending
         × IsShown ending result (O.written out.old) (O.written out.new) (N.written notes.old) (N.written notes.new) (Rose (N.faults notes.old) (N.faults notes.new))) }
 
-    // Whatever the inputs tell: each fault has its cause, and without an output nothing is put out.
+    // Whether or not they are known: each fault has its cause, and its note line, which needs no file's bytes.
     ensures read_fault { IfNone (I.holds inputs.old) (result ≡ Status.ReadFault → Rose (I.faults inputs.old) (I.faults inputs.new)) }
-    ensures write_fault { result ≡ Status.WriteFault → Rose (O.faults out.old) (O.faults out.new) }
+    ensures write_fault { result ≡ Status.WriteFault → Rose (O.faults out.old) (O.faults out.new)
+        × PutsNote (N.written notes.old) (N.written notes.new) (Rose (N.faults notes.old) (N.faults notes.new)) write_fault_note }
+    ensures memory { result ≡ Status.Memory
+        → PutsNote (N.written notes.old) (N.written notes.new) (Rose (N.faults notes.old) (N.faults notes.new)) memory_note }
+    ensures refused_words { stated.command_of (map string_bytes words.now) ≡ None → (result ≡ Status.Refused)
+        × PutsNote (N.written notes.old) (N.written notes.new) (Rose (N.faults notes.old) (N.faults notes.new)) usage_note }
+
+    // Where the program's file is known to be missing, no other answer comes, not even out of memory.
+    ensures missing { (command : stated.Command) → stated.command_of (map string_bytes words.now) ≡ Some command
+        → IsMissing (I.holds inputs.old) command.program → result ≡ Status.ReadFault }
+
+    // Without an output nothing is put out; and what the call leaves of the inputs and of the counts.
     ensures nothing_put { result ≢ Status.Done → result ≢ Status.WriteFault → O.written out.new ≡ O.written out.old }
-    ensures refused_words { command_of (map string_bytes words.now) ≡ None → result ≡ Status.Refused }
+    ensures same_files { I.holds inputs.new ≡ I.holds inputs.old }
+    ensures counted { (I.faults inputs.old ≤ I.faults inputs.new) × (O.faults out.old ≤ O.faults out.new) × (N.faults notes.old ≤ N.faults notes.new) }
 {
-    match answer(alloc, words, inputs) {
+    putting_law();
+    let Some(command) = read_words(words) else {
+        put_usage(notes);
+        return Status::Refused;
+    };
+    match answer(alloc, inputs, command) {
         Ok(output) => match output.put(out) {
             Ok(()) => Status::Done,
             Err(Failed) => {
@@ -67,9 +88,9 @@ pub fn run<I: Inputs, O: Sink, N: Sink>(
                 Status::WriteFault
             }
         },
-        Err(stop) => {
-            put_note(notes, words, stop);
-            status_of(stop)
+        Err(failure) => {
+            put_note(notes, command, failure);
+            status_of(failure)
         }
     }
 }

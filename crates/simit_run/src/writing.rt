@@ -1,14 +1,14 @@
-//! Puts the tables of sets, one after the other, each made whole before it is put.
+//! Puts the tables of sets, one after another, each made whole before it is put.
 
-ghost use Rattle.std.specs.Prelude.{OnOk, OnErr, vec_capacity};
+ghost use Rattle.std.specs.Prelude.{◌≤◌, OnOk, OnErr, vec_capacity};
 ghost use Rattle.simit_io.specs.Inputs.{Rose};
 ghost use Rattle.simit_io.specs.Sink.{Puts, PutsPrefix};
 ghost use Rattle.simit_run.specs.Answer.{texts_of};
-ghost use Rattle.simit_run.specs.Tables.{HaveTables, IsLongest};
+ghost use Rattle.simit_run.specs.TableContracts.{HaveTables, IsLongest};
 
 use hypergraph::Sets;
 use set_tables::{Schema, text_len, write_table};
-use simit_io::{Failed, Sink, put_all};
+use simit_io::{Failed, Sink, put_all, putting_law};
 
 /// The length of the longest text of the sets.
 pub fn longest(schemas: &[Schema], sets: &Sets) -> usize
@@ -22,23 +22,25 @@ pub fn longest(schemas: &[Schema], sets: &Sets) -> usize
     longest
 }
 
-/// Puts the tables up to the first that the sink doesn't take whole. There is room for the longest.
+/// Puts the tables up to the first that the sink doesn't take whole. The buffer has the capacity for the longest.
 pub fn put_tables<O: Sink>(
     out: &mut O,
     schemas: &[Schema],
     sets: &Sets,
-    room: &mut Vec<u8>,
+    buffer: &mut Vec<u8>,
 ) -> Result<(), Failed>
     requires tables { HaveTables schemas.now sets.now }
-    requires room { IsLongest schemas.now sets.now (vec_capacity room.old) }
+    requires capacity { IsLongest schemas.now sets.now (vec_capacity buffer.old) }
     ensures whole { OnOk result (Puts (O.written out.old) (O.written out.new) (texts_of schemas.now sets.now)) }
     ensures prefix { OnErr result (PutsPrefix (O.written out.old) (O.written out.new) (texts_of schemas.now sets.now)) }
     ensures failed { OnErr result (Rose (O.faults out.old) (O.faults out.new)) }
+    ensures counted { O.faults out.old ≤ O.faults out.new }
 {
+    putting_law();
     for number in 0..sets.len() {
-        room.clear();
-        write_table(&schemas[number as usize], sets, number, room);
-        put_all(out, room)?;
+        buffer.clear();
+        write_table(&schemas[number as usize], sets, number, buffer);
+        put_all(out, buffer)?;
     }
     Ok(())
 }

@@ -20,8 +20,8 @@ evaluate-word-requires-clause-scope c =
     let fit : c.loop-step.known ≤ length c.loop-step.variables = omega arith in
     rw length-take-le (write_scope scope c.loop-step.known c.args.steps.now c.loop-step.step-index c.step-item.result c.in-Write.place c.in-Write.value c.loop-step-test.true c.step-item.is c.in-Write.is c.loop-step.invariant.scope).1
 
-pub end-row-requires-clause-place : goal.end-row-requires-clause-place
-end-row-requires-clause-place c =
+pub end-row-requires-clause-position : goal.end-row-requires-clause-position
+end-row-requires-clause-position c =
     let scope : Scope = scope_in c.args.sets.now c.args.mapped in
     (write_scope scope c.loop-step.known c.args.steps.now c.loop-step.step-index c.step-item.result c.in-Write.place c.in-Write.value c.loop-step-test.true c.step-item.is c.in-Write.is c.loop-step.invariant.scope).0
 
@@ -40,7 +40,7 @@ loop-step-preserved c =
           let fit : old.known < length old.variables = omega arith in
           record {
             known = omega arith;
-            room = new.auto.variables ∙ old.invariant.room;
+            buffer = new.auto.variables ∙ old.invariant.buffer;
             rows = new.auto.into ∙ old.invariant.rows;
             scope = rw w.known-is (var_scope scope old.known steps old.step-index step w.in-Var.expr below here w.in-Var.is old.invariant.scope).1;
             left =
@@ -52,18 +52,18 @@ loop-step-preserved c =
           w.into-is ∙ ap (set old.into w.end-row.result) w.add.ensures in
           record {
             known = omega arith;
-            room = new.auto.variables ∙ old.invariant.room;
+            buffer = new.auto.variables ∙ old.invariant.buffer;
             rows = new.auto.into ∙ old.invariant.rows;
             scope =
                 rw w.known-is
                 (write_scope scope old.known steps old.step-index step w.in-Write.place w.in-Write.value below here w.in-Write.is old.invariant.scope).2;
             left =
                 write_left site old.into new.into old.variables new.variables old.known new.known steps old.step-index step w.in-Write.place w.end-row.result w.in-Write.value w.evaluate-word.result _
-                below here w.in-Write.is w.evaluate-word.ensures w.end-row.ensures.value w.variables-is w.known-is written old.invariant.left;
+                c.adding_law.ensures.first below here w.in-Write.is w.evaluate-word.ensures w.end-row.ensures.value w.variables-is w.known-is written old.invariant.left;
           }
     ]
 
 pub returns : goal.returns
 returns c =
     let site : Site = site_of c.args.sets.now c.args.mapped c.args.element in
-    none_left site c.loop-step.into (take c.loop-step.known c.loop-step.variables) c.args.steps.now c.loop-step.step-index _ c.loop-step-test.false c.loop-step.invariant.left
+    none_left site c.loop-step.into (take c.loop-step.known c.loop-step.variables) c.args.steps.now c.loop-step.step-index _ c.adding_law.ensures.nothing c.loop-step-test.false c.loop-step.invariant.left

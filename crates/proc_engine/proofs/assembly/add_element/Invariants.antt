@@ -9,7 +9,7 @@ use Rattle.proc_engine.proofs.assembly.add_element.Given as goal
 abbrev pub invariant-loop-step : goal.invariant-loop-step
 invariant-loop-step l = record {
   known : l.known ≤ l.step-index;
-  room : length l.variables ≡ length l.fn.variables;
+  buffer : length l.variables ≡ length l.fn.variables;
   rows : length l.into ≡ length l.fn.into;
   scope : steps_in_scope (scope_in l.sets l.mapped) l.known (drop l.step-index l.steps) ≡ true;
   left : added l.into (contributions (site_of l.sets l.mapped l.element) (take l.known l.variables) (drop l.step-index l.steps))

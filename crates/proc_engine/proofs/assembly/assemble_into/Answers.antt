@@ -3,7 +3,6 @@ use Rattle.std.proofs.lemmas.List.{take_at}
 use Rattle.hypergraph.specs.Sets.{set_at}
 use Rattle.global_algebra.specs.Assembled.{all_contributions}
 use Rattle.global_algebra.specs.Adding.{added}
-use Rattle.global_algebra.proofs.AddingSums.{assembles_from_zeros}
 use Rattle.proc_engine.proofs.assembly.assemble_into.Goals as goal
 
 pub returns : goal.returns
@@ -14,4 +13,4 @@ returns c =
     c.deref_mut-2.ensures.value ∙ c.in_ok-fill_with_zeros.ensures ∙ ap (λ n. replicate n 0) c.count.ensures.value in
     let size : length c.add_elements.new.into ≡ c.fill_with_zeros.new.words.len = c.add_elements.auto.into ∙ c.deref_mut-2.ensures.len in
     take_at c.add_elements.new.into _ c.fill_with_zeros.new.words.len size
-    ∙ c.add_elements.ensures ∙ ap (λ l. added l contributed) zeros ∙ assembles_from_zeros rows contributed
+    ∙ c.add_elements.ensures ∙ ap (λ l. added l contributed) zeros ∙ c.adding_law.ensures.from_zeros rows contributed

@@ -6,13 +6,13 @@ use Rattle.proc_engine.proofs.assignment.block_sums.Goals.{then-term, else-term}
 
 pub loop-term-init : goal.loop-term-init
 unfolding sum_at
-loop-term-init c = record { size = omega arith; room = omega arith; so_far = λ k below. grind (arith, common_steps, c.fill.ensures.after) }
+loop-term-init c = record { size = omega arith; buffer = omega arith; so_far = λ k below. grind (arith, common_steps, c.fill.ensures.after) }
 
 pub loop-term-preserved : goal.loop-term-preserved
 unfolding sum_at
 loop-term-preserved c = record {
   size = omega arith;
-  room = omega arith;
+  buffer = omega arith;
   so_far = λ k below.
       let before = c.loop-term.invariant.so_far k below in
       let product = c.term_products.ensures k (omega arith) in

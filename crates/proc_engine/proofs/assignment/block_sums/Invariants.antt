@@ -7,6 +7,6 @@ use Rattle.proc_engine.proofs.assignment.block_sums.Given as goal
 abbrev pub invariant-loop-term : goal.invariant-loop-term
 invariant-loop-term l = record {
   size : length l.totals ≡ length l.fn.totals;
-  room : length l.products ≡ length l.fn.totals;
+  buffer : length l.products ≡ length l.fn.totals;
   so_far : (k : ℕ) → k < length l.fn.totals → slice_index l.totals k ≡ sum_at (set_at l.sets l.set).columns (l.from + k) (take l.term-index l.terms);
 }

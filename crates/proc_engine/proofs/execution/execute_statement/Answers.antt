@@ -1,19 +1,18 @@
 use Rattle.std.proofs.Common.{◌≡◌, length, ap, sym, ◌∙◌}
 use Rattle.std.proofs.lemmas.List.{get_or_read}
 use Rattle.std.proofs.lemmas.List.FromFn.{length-map-range_with_len}
-use Rattle.hypergraph.specs.SetShape.{SetShape}
+use Rattle.hypergraph.specs.SetValue.{SetValue}
 use Rattle.hypergraph.specs.Sets.{set_at}
 use Rattle.global_algebra.specs.Sums.{sum_at}
 use Rattle.global_algebra.specs.Assembled.{assembled, all_contributions}
 use Rattle.global_algebra.specs.Run.{after_statement, function_at, sums_over, vector_of, with_words}
 use Rattle.global_algebra.specs.Fits.{MapFits}
 use Rattle.global_algebra.specs.declared.program.Function.{Function}
-use Rattle.global_algebra.proofs.AddingSums.{length-assembled}
 use Rattle.proc_engine.proofs.execution.execute_statement.Goals as goal
 
 pub set_column-requires-clause-words : goal.set_column-requires-clause-words
 set_column-requires-clause-words c =
-    let set : SetShape = set_at c.args.sets.now c.in-Assign.set in
+    let set : SetValue = set_at c.args.sets.now c.in-Assign.set in
     let words : c.of.result ≡ sums_over c.args.sets.now c.in-Assign.set c.items.result.now = c.of.ensures ∙ c.in_ok-sums_into-in-Assign.ensures in
     ap length words ∙ length-map-range_with_len (λ e. sum_at set.columns e c.items.result.now) 0 set.count
 
@@ -22,7 +21,7 @@ set_column-requires-in-Map-clause-words c =
     let rows = (set_at c.args.sets.now c.in-Map.set).count in
     let contributed = all_contributions c.args.sets.now c.in-Map.mapped c.items-in-Map-2.result.now in
     let words : c.of-in-Map.result ≡ assembled rows contributed = c.of-in-Map.ensures ∙ c.in_ok-assemble_into-in-Map.ensures in
-    ap length words ∙ length-assembled rows contributed
+    ap length words ∙ c.adding_law.ensures.assembled_length rows contributed
 
 pub returns-in_ok-sums_into-in-Assign-clause-after : goal.returns-in_ok-sums_into-in-Assign-clause-after
 unfolding after_statement

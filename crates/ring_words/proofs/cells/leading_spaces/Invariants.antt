@@ -3,9 +3,9 @@ use Rattle.std.specs.List.{prefix_len}
 use Rattle.ring_words.specs.Cell as spec
 use Rattle.ring_words.proofs.cells.leading_spaces.Given as goal
 
-abbrev pub invariant-loop-at : goal.invariant-loop-at
-invariant-loop-at l =
-    (l.at ≤ length l.bytes) × (prefix_len spec.is_space l.bytes ≡ l.at + prefix_len spec.is_space (drop l.at l.bytes))
+abbrev pub invariant-loop-offset : goal.invariant-loop-offset
+invariant-loop-offset l =
+    (l.offset ≤ length l.bytes) × (prefix_len spec.is_space l.bytes ≡ l.offset + prefix_len spec.is_space (drop l.offset l.bytes))
 
-abbrev pub decreases-loop-at : goal.decreases-loop-at
-decreases-loop-at l = length l.bytes - l.at
+abbrev pub decreases-loop-offset : goal.decreases-loop-offset
+decreases-loop-offset l = length l.bytes - l.offset

@@ -1,43 +1,30 @@
-use Rattle.std.proofs.Common.{◌≡◌, ◌∙◌, ◌<◌, [], ℕ, Vec, Global, Some, None, true, drop, get_or, length, arith, ap, sym, refl, rules}
-use Rattle.std.specs.Prelude.{is_ok}
-use Rattle.std.proofs.lemmas.List.{get_or-map, length-map, map-set}
-use Rattle.set_tables.specs.Reading.{lists_of}
-use Rattle.set_tables.specs.Table.{cell_words}
-use Rattle.set_tables.proofs.ElementsRead.{behind-word-at, grows-end, grows-start, grows-step, words-bad}
+use Rattle.std.proofs.Common.{◌≡◌, ◌<◌, ◌+◌, [], ◌∷◌, ◌++◌, Ok, Err, length, get_or, rules, arith, inr, ◌∙◌}
+use Rattle.std.proofs.lemmas.Result.{err_from_is_err_and}
+use Rattle.std.proofs.lemmas.List.{get_or_default}
+use Rattle.set_tables.specs.Table.{word_of}
+use Rattle.set_tables.proofs.ElementsRead.{words-end, words-fail, words-start, words-step}
 use Rattle.set_tables.proofs.reading.read_words.Goals as goal
 
 pub loop-k-init : goal.loop-k-init
-loop-k-init c = grows-start _ _
+loop-k-init c = words-start c.args.arity c.args.schema.now c.args.row c.args.records.now.row c.args.columns.now.items
+
+pub returns-in_err-word : goal.returns-in_err-word
+returns-in_err-word c =
+    let p = err_from_is_err_and c.from_residual.result c.from_residual.ensures.1 in
+    let stated : word_of c.args.row (c.args.arity + c.loop-k.k) c.index-schema-k.result.scale (get_or c.args.records.now.row (c.args.arity + c.loop-k.k) []) ≡ Err c.in_err-word.field-0.0 = cc (c.cell.ensures, c.in_err-word.ensures) in
+    rw (p.1, p.2)
+    (inr (words-fail c.args.arity c.args.schema.now c.args.row c.args.records.now.row c.loop-k.k c.in_err-word.field-0.0 c.index-schema-k.result c.args.columns.now.items c.loop-k.columns.items
+    c.loop-k.invariant c.loop-k-test.true c.index-schema-k.is stated))
 
 pub loop-k-preserved : goal.loop-k-preserved
 loop-k-preserved c =
-    let items = c.loop-k.words.items in
-    let k = c.loop-k.k in
-    let stated = cell_words c.args.columns.now (drop c.args.arity c.args.records.now.row) in
-    let inside = λ (v : Vec ℕ Global). v.items in
-    let good : is_ok c.push.result ≡ true = search rules in
-    let many : length items ≡ length c.args.words.now.items = sym (length-map items inside) ∙ c.loop-k.invariant.as_many ∙ length-map c.args.words.now.items inside in
-    let in' : k < length items = omega (arith, c.requires.as_many) in
-    let at : get_or (lists_of items) k [] ≡ c.index_mut.result.now.items = get_or-map inside items k c.index_mut.result.now [] in' ∙ ap inside (sym c.index_mut.ensures.value) in
-    let word : get_or stated k None ≡ Some c.in-Ok.word =
-    behind-word-at c.args.arity c.args.columns.now c.args.records.now.row k c.index-columns-k.result c.cell.result.now c.requires.width c.loop-k-test.true c.index-columns-k.is c.cell.ensures
-    ∙ rw (← c.read_cell.ensures, c.in-Ok.is) refl in
-    rw (map-set inside items k c.push.new.self)
-    (grows-step (lists_of c.args.words.now.items) (lists_of items) stated k c.in-Ok.word c.push.new.self.items
-    c.loop-k.invariant (omega (arith, length-map c.args.words.now.items inside, c.requires.as_many)) word (rw (good, ← at) at c.push.ensures.items))
-
-pub index_mut-requires : goal.index_mut-requires
-index_mut-requires c =
-    let many = c.loop-k.invariant.as_many in
-    omega (arith, length-map c.loop-k.words.items (λ (v : Vec ℕ Global). v.items), length-map c.args.words.now.items (λ (v : Vec ℕ Global). v.items), c.loop-k.words.ok.0, c.requires.as_many)
-
-pub returns-in_default : goal.returns-in_default
-returns-in_default c =
-    words-bad c.args.arity c.args.columns.now c.args.records.now.row c.loop-k.k c.requires.width c.loop-k-test.true
-    (behind-word-at c.args.arity c.args.columns.now c.args.records.now.row c.loop-k.k c.index-columns-k.result c.cell.result.now c.requires.width c.loop-k-test.true c.index-columns-k.is c.cell.ensures
-    ∙ rw (← c.read_cell.ensures, c.in_default.is) refl)
+    let stated : word_of c.args.row (c.args.arity + c.loop-k.k) c.index-schema-k.result.scale (get_or c.args.records.now.row (c.args.arity + c.loop-k.k) []) ≡ Ok c.in_ok-word.word = cc (c.cell.ensures, c.in_ok-word.ensures) in
+    let grown : c.push.new.self ≡ c.index_mut.result.now ++ c.in_ok-word.word ∷ [] = search rules in
+    let in' : c.loop-k.k < length c.loop-k.columns.items = omega (arith, c.loop-k.invariant.as_many, c.requires.as_many) in
+    let stands : c.index_mut.result.now ≡ get_or c.loop-k.columns.items c.loop-k.k [] = c.index_mut.ensures.value ∙ get_or_default c.loop-k.columns.items c.loop-k.k c.index_mut.result.now [] in' in
+    words-step c.args.arity c.args.schema.now c.args.row c.args.records.now.row c.loop-k.k c.in_ok-word.word c.index-schema-k.result c.args.columns.now.items c.loop-k.columns.items c.push.new.self
+    c.loop-k.invariant c.loop-k-test.true (omega (arith, c.requires.as_many)) c.index-schema-k.is stated (rw stands at grown)
 
 pub returns : goal.returns
 returns c =
-    grows-end c.args.arity c.args.columns.now c.args.records.now.row (lists_of c.args.words.now.items) (lists_of c.loop-k.words.items) c.loop-k.k
-    c.requires.width (length-map c.args.words.now.items _ ∙ c.requires.as_many) c.loop-k-test.false c.loop-k.invariant
+    words-end c.args.arity c.args.schema.now c.args.row c.args.records.now.row c.loop-k.k c.args.columns.now.items c.loop-k.columns.items c.loop-k.invariant c.requires.as_many (omega (arith))

@@ -1,4 +1,4 @@
-use Rattle.sim_parser.proofs.Law.{answered-derived, derived-answered, refused-underived, unambiguous}
+use Rattle.sim_parser.proofs.Law.{answered-derived, derived-answered, derived-read, read-derived, refused-underived, unambiguous}
 use Rattle.sim_parser.proofs.parser.parse.Goals as goal
 
 pub returns-clause-derived : goal.returns-clause-derived
@@ -12,3 +12,6 @@ returns-clause-refused c = refused-underived c.args.source.now c.args.tokens.now
 
 pub returns-clause-unambiguous : goal.returns-clause-unambiguous
 returns-clause-unambiguous c = unambiguous c.args.source.now
+
+pub returns-clause-reads_grammar : goal.returns-clause-reads_grammar
+returns-clause-reads_grammar c p = (read-derived c.args.source.now c.args.tokens.now p, derived-read c.args.source.now c.args.tokens.now p)

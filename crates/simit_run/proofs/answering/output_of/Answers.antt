@@ -1,5 +1,4 @@
 use Rattle.std.proofs.Common.{◌≡◌, ◌∙◌, List, map, ap, rules}
-use Rattle.hypergraph.specs.SetShape.{SetShape}
 use Rattle.set_tables.specs.declared.schema.Schema.{Schema}
 use Rattle.global_algebra.specs.Fits.{SetsFit}
 use Rattle.global_algebra.specs.Run.{run}

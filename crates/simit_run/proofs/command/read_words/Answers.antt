@@ -1,9 +1,9 @@
-use Rattle.std.proofs.Common.{◌≡◌, true, false, List, drop, map, string_bytes, sym, ap, ◌∙◌, refl, rules, arith}
+use Rattle.std.proofs.Common.{◌≡◌, true, false, drop, string_bytes, refl, arith}
 use Rattle.std.specs.Prelude.{codes}
 use Rattle.std.specs.List.{list_all}
 use Rattle.std.specs.Str.{bytes_eq}
 use Rattle.std.proofs.lemmas.Grind.{common_steps}
-use Rattle.simit_run.specs.Answer.{names_file}
+use Rattle.simit_run.specs.Command.{names_file}
 use Rattle.simit_run.proofs.WordsRead.{words-read}
 use Rattle.simit_run.proofs.command.read_words.Goals as goal
 use Rattle.simit_run.proofs.command.read_words.Goals.{else-eq-via-then-eq+then-names_file+else-name_files, else-eq-via-then-eq+else-names_file, else-eq-via-else-eq}

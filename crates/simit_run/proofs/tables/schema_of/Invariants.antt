@@ -3,4 +3,4 @@ use Rattle.simit_run.proofs.tables.schema_of.Given as goal
 
 -- a column for each field so far
 abbrev pub invariant-loop-field : goal.invariant-loop-field
-invariant-loop-field l = l.columns.items ≡ map (λ field. record { heading = field; scale = 0 }) (take l.field-index l.declared.fields)
+invariant-loop-field l = l.columns ≡ map (λ field. record { heading = field; scale = 0 }) (take l.field-index l.declared.fields)

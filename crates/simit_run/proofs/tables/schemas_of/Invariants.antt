@@ -4,4 +4,4 @@ use Rattle.simit_run.proofs.tables.schemas_of.Given as goal
 
 -- a schema for each set so far
 abbrev pub invariant-loop-declared : goal.invariant-loop-declared
-invariant-loop-declared l = l.schemas.items ≡ map schema_of (take l.declared-index l.sets)
+invariant-loop-declared l = l.schemas ≡ map schema_of (take l.declared-index l.sets)

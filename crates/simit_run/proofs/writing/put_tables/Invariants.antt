@@ -1,12 +1,12 @@
-use Rattle.std.proofs.Common.{◌≤◌, take, vec_capacity}
+use Rattle.std.proofs.Common.{◌≡◌, ◌≤◌, take, vec_capacity}
 use Rattle.simit_io.specs.Sink.{Puts}
 use Rattle.simit_run.specs.Answer.{texts_of}
 use Rattle.simit_run.proofs.writing.put_tables.Given as goal
 
--- the tables so far were put whole, and the room is as large as before
+-- the tables so far were put whole, and the buffer has the same capacity
 abbrev pub invariant-loop-number : goal.invariant-loop-number
 invariant-loop-number g l = record {
   so_far : Puts (g.O.Sink.written l.fn.out) (g.O.Sink.written l.out) (texts_of (take l.number l.schemas) (take l.number l.sets));
   counted : g.O.Sink.faults l.fn.out ≤ g.O.Sink.faults l.out;
-  room : vec_capacity l.fn.room ≤ vec_capacity l.room;
+  capacity : vec_capacity l.buffer ≡ vec_capacity l.fn.buffer;
 }

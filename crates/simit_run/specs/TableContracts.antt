@@ -1,0 +1,53 @@
+-- What the calls inside this crate know of a program's sets and their tables.
+use Rattle.std.specs.Prelude.{◌≡◌, ◌<◌, ◌≤◌, ◌+◌, ℕ, List, [], All, length, slice_index_or}
+use Rattle.vocabulary.specs.declared.limits.TheConstants.{MOST_COLUMNS, MOST_SETS}
+use Rattle.hypergraph.specs.SetValue.{SetValue, EndpointsBelow}
+use Rattle.hypergraph.specs.Sets.{endpoint_bound, set_at}
+use Rattle.set_tables.specs.Output.{table_text}
+use Rattle.set_tables.specs.Schema.{Fits, IsSchema}
+use Rattle.set_tables.specs.declared.schema.Schema.{Schema}
+use Rattle.global_algebra.specs.Fits.{IsAsDeclared, IsWellFormed, declaration_at}
+use Rattle.global_algebra.specs.declared.program.Program.{Program}
+use Rattle.global_algebra.specs.declared.program.SetDeclaration.{SetDeclaration}
+use Rattle.simit_run.specs.Answer.{schema_of}
+
+-- a declared set whose table can be read
+pub record IsReadable (declared : SetDeclaration) : Type 0 where
+  pub schema : IsSchema (schema_of declared)
+  pub few_columns : declared.arity + length declared.fields ≤ MOST_COLUMNS
+
+-- a program whose tables can be read, and that can be run on their sets
+pub record IsRunnable (program : Program) : Type 0 where
+  pub well_formed : IsWellFormed program
+  pub few_sets : length program.sets ≤ MOST_SETS
+  pub readable : All IsReadable program.sets
+
+-- a set that was read: it is as declared, and its endpoints are elements of a set that was read
+pub record IsRead (program : Program) (sets : List SetValue) (number : ℕ) : Type 0 where
+  pub declared : IsAsDeclared (set_at sets number) (declaration_at program.sets number)
+  pub endpoints_below : EndpointsBelow (set_at sets number) (endpoint_bound sets number)
+
+-- the sets that were read so far are the first ones of the program
+pub record AreRead (program : Program) (sets : List SetValue) : Type 0 where
+  pub few : length sets ≤ length program.sets
+  pub each : (number : ℕ) → number < length sets → IsRead program sets number
+
+-- the schema of a number; one without columns where there is none
+abbrev pub schema_at : List Schema → ℕ → Schema
+schema_at schemas number = slice_index_or schemas number (record { name = []; arity = 0; columns = [] })
+
+-- sets have tables of these schemas
+pub record HaveTables (schemas : List Schema) (sets : List SetValue) : Type 0 where
+  pub as_many : length schemas ≡ length sets
+  pub readable : All IsSchema schemas
+  pub fit : (number : ℕ) → number < length sets → Fits (schema_at schemas number) (set_at sets number)
+
+-- no text of the sets is longer
+abbrev pub IsLongest : List Schema → List SetValue → ℕ → Type 0
+IsLongest schemas sets capacity =
+    (number : ℕ) → number < length sets → length (table_text (schema_at schemas number) (set_at sets number)) ≤ capacity
+
+-- what an output keeps: it can be put as it stands, within that capacity
+pub record IsWritable (schemas : List Schema) (sets : List SetValue) (capacity : ℕ) : Type 0 where
+  pub tables : HaveTables schemas sets
+  pub longest : IsLongest schemas sets capacity

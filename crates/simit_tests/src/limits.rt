@@ -1,0 +1,52 @@
+//! The limits on files and on the rows of a table, each at its last value and one past it.
+use crate::calls::{assert_over_points, done, ended, refused};
+use crate::fixtures::numbered;
+use simit_run::Status;
+use std::test::Fail;
+
+const PROGRAM: &[u8] =
+    b"element Point x: int(0); end extern points: set{Point}; proc main points.x = points.x; end";
+
+#[test]
+fn at_most_1048576_bytes_of_a_program(rt: HostRuntime) -> Result<(), Fail> {
+    let limit = ended(Status::Limit, "limit: a.sim is over 1048576 bytes\n");
+    for (text, size, end) in [
+        (PROGRAM, 1_048_576, done("set points\nx\n1\n")),
+        (PROGRAM, 1_048_577, limit),
+        (b"", 1_048_576, refused("refused: program\n")),
+        (b"", 1_048_577, limit),
+        (b"", 3_000_000, limit),
+    ] {
+        let mut program = text.to_vec(rt.alloc())?;
+        program.resize(size, b'%')?;
+        assert_over_points(&rt, "a filled program", &program, b"x\n1\n", end)?;
+    }
+    Ok(())
+}
+
+#[test]
+fn at_most_67108864_bytes_of_a_table(rt: HostRuntime) -> Result<(), Fail> {
+    let limit = ended(Status::Limit, "limit: points.csv is over 67108864 bytes\n");
+    for (size, end) in [
+        (67_108_864, done("set points\nx\n1\n")),
+        (67_108_865, limit),
+    ] {
+        let mut points = b"x\n1\n".to_vec(rt.alloc())?;
+        points.resize(size, b'\n')?;
+        assert_over_points(&rt, "a filled table", PROGRAM, &points, end)?;
+    }
+    Ok(())
+}
+
+#[test]
+fn at_most_1048576_rows(rt: HostRuntime) -> Result<(), Fail> {
+    let out = numbered(rt.alloc(), "set points\nx\n", 1_048_576, "", "\n")?;
+    for (count, end) in [
+        (1_048_576, done(out.as_str())),
+        (1_048_577, refused("refused: points.csv: table\n")),
+    ] {
+        let points = numbered(rt.alloc(), "x\n", count, "", "\n")?;
+        assert_over_points(&rt, "rows", PROGRAM, points.as_bytes(), end)?;
+    }
+    Ok(())
+}

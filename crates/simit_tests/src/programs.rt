@@ -1,0 +1,108 @@
+//! Programs over points: what they print, how they may be written, and that others are refused.
+use crate::calls::{assert_over_points, done, refused};
+use std::test::Fail;
+
+/// Statements, a table, and what is printed.
+static PRINTED: [(&str, &[u8], &str); 15] = [
+    ("", b"x,f\n3,4\n-1,2\n", "set s\nx,f\n3,4\n-1,2\n"),
+    ("s.x = s.f;", b"x,f\n3,4\n-1,2\n", "set s\nx,f\n4,4\n2,2\n"),
+    // Each statement sees what those before it did.
+    ("s.x = s.f; s.f = s.x;", b"x,f\n3,4\n", "set s\nx,f\n4,4\n"),
+    ("s.f = s.x; s.x = s.f;", b"x,f\n3,4\n", "set s\nx,f\n3,3\n"),
+    (
+        "s.x = s.x + s.f; s.x = s.x .* s.x;",
+        b"x,f\n3,4",
+        "set s\nx,f\n49,4\n",
+    ),
+    // A first sign is of the first term alone, and signs go from left to right.
+    ("s.x = -s.x;", b"x,f\n3,4\n", "set s\nx,f\n-3,4\n"),
+    ("s.x = -s.x + s.f;", b"x,f\n3,4\n", "set s\nx,f\n1,4\n"),
+    (
+        "s.x = s.f - s.x - s.f;",
+        b"x,f\n3,4\n",
+        "set s\nx,f\n-3,4\n",
+    ),
+    (
+        "s.x = s.x - s.f .* s.x;",
+        b"x,f\n3,4\n",
+        "set s\nx,f\n-9,4\n",
+    ),
+    // Numbers stand before fields.
+    ("s.x = -2*s.x .* s.f;", b"x,f\n3,4\n", "set s\nx,f\n-24,4\n"),
+    (
+        "s.x = 2*3*007*s.x .* s.f;",
+        b"x,f\n3,4\n",
+        "set s\nx,f\n504,4\n",
+    ),
+    (
+        "s.x = s.x .* s.x .* s.x;",
+        b"x,f\n-3,4\n",
+        "set s\nx,f\n-27,4\n",
+    ),
+    // Words wrap round.
+    (
+        "s.x = 9223372036854775807*s.x;",
+        b"x,f\n2,0\n-1,0\n",
+        "set s\nx,f\n-2,0\n-9223372036854775807,0\n",
+    ),
+    (
+        "s.x = -s.x - s.f;",
+        b"x,f\n-9223372036854775808,0\n9223372036854775807,1\n9223372036854775807,2\n",
+        "set s\nx,f\n-9223372036854775808,0\n-9223372036854775808,1\n9223372036854775807,2\n",
+    ),
+    (
+        "s.f = s.x .* s.x;",
+        b"x,f\n4294967296,7\n3037000500,7\n",
+        "set s\nx,f\n4294967296,0\n3037000500,-9223372036709301616\n",
+    ),
+];
+
+#[test]
+fn statements_and_what_they_print(rt: HostRuntime) -> Result<(), Fail> {
+    let declarations = "element P x: int(0); f: int(0); end extern s: set{P};";
+    for (statements, points, out) in &PRINTED {
+        let program = format!(in rt.alloc(); "{declarations} proc main {statements} end")?;
+        assert_over_points(&rt, statements, program.as_bytes(), points, done(out))?;
+    }
+    Ok(())
+}
+
+/// One program in many layouts: it subtracts the double of x from f.
+static LAYOUTS: [&[u8]; 8] = [
+    b"element Point x: int(0); f: int(0); end extern points: set{Point}; proc main points.f = -2*points.x+points.f; end",
+    b"element Point x:int(0);f:int(0);end extern points:set{Point};proc main points.f=-2*points.x+points.f;end",
+    b"element Point\r\n  x : int(0);\r\n  f : int(0);\r\nend\r\nextern points : set{Point};\r\nproc main\r\n  points.f = - 2 * points.x + points.f;\r\nend\r\n",
+    b"element Point x: int(0);\tf: int\r(\n0\n); end extern points: set { Point } ; proc main points . f = - 2 * points . x + points . f ; end",
+    b"%\nelement Point x: int(0); f: int(0); end%end\nextern points: set{Point}; proc main points.f = -2*points.x+points.f; end%",
+    b"% \x00\x01 \xFF\xFE caf\xC3\xA9 $ \" end \r still a comment\nelement Point x: int(0); f: int(0); end extern points: set{Point}; proc main points.f = -%2*\n2*points.x+points.f; end % \x80",
+    b"element _ x: int(0); f: int(0); end extern points: set{_}; proc main points.f = -2*points.x+points.f; end",
+    b"element x x: int(0); f: int(0); end extern points: set{x}; proc main points.f = -2*points.x+points.f; end",
+];
+
+#[test]
+fn one_program_in_many_layouts(rt: HostRuntime) -> Result<(), Fail> {
+    for text in &LAYOUTS {
+        let end = done("set points\nx,f\n3,-2\n");
+        assert_over_points(&rt, "a layout", text, b"x,f\n3,4\n", end)?;
+    }
+    Ok(())
+}
+
+/// Programs that are refused: with a byte that begins no token, without a tree, with a tree of another form, and with
+/// parentheses in the main procedure, which no tree shows.
+static REFUSED: [&[u8]; 5] = [
+    b"element P x: int(0); end extern s: set{P}; proc main s.x = s.x? end",
+    b"element P x: int(0); end extern s: set{P}; proc main s.x = s.x end",
+    b"element P x: int(0); end extern s: set{P}; proc main s.x = 5; end",
+    b"element P x: int(0); end extern s: set{P}; proc main s.x = (s.x); end",
+    b"element P x: int(0); end extern s: set{P}; proc main s.x = s.x - 2*(s.x); end",
+];
+
+#[test]
+fn programs_are_refused(rt: HostRuntime) -> Result<(), Fail> {
+    for text in &REFUSED {
+        let end = refused("refused: program\n");
+        assert_over_points(&rt, "a refused program", text, b"x\n1\n", end)?;
+    }
+    Ok(())
+}
