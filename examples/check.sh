@@ -1,0 +1,60 @@
+#!/bin/sh
+# Runs the built program on every model here and compares what it prints with the file `expected` beside it, and on one
+# command line for each status that a user can bring about.
+# Usage: sh examples/check.sh [PROGRAM]; without one, the program that `rt ci` built. The first that fails ends it.
+set -eu
+here=$(cd "$(dirname "$0")" && pwd)
+program=$(realpath "${1:-$here/../crates/simit/out/simit}")
+work=$(mktemp -d)
+trap 'rm -rf "$work"' EXIT
+
+# compare NAME STATUS WANTED_STATUS WANTED_OUT WANTED_NOTE: what the last call wrote stands in $work/out and $work/note
+compare() {
+    if [ "$2" -ne "$3" ]; then
+        echo "check.sh: $1 ended with status $2, not $3" >&2
+        exit 1
+    fi
+    if ! cmp -s "$work/out" "$4" || ! cmp -s "$work/note" "$5"; then
+        echo "check.sh: $1 wrote something else:" >&2
+        diff "$4" "$work/out" >&2 || true
+        diff "$5" "$work/note" >&2 || true
+        exit 1
+    fi
+    echo "check.sh: $1 is as expected"
+}
+
+# call WORDS..: runs the program, and leaves its status in $status
+call() {
+    status=0
+    "$program" "$@" >"$work/out" 2>"$work/note" || status=$?
+}
+
+: >"$work/nothing"
+for words in "$here"/*/words; do
+    model=$(dirname "$words")
+    cd "$model"
+    # The words of a command hold no blanks.
+    # shellcheck disable=SC2046
+    call $(cat words)
+    compare "the model $(basename "$model")" "$status" 0 expected "$work/nothing"
+done
+
+cd "$here/pull"
+echo 'usage: simit run PROGRAM SETS..' >"$work/wanted"
+call run
+compare 'a command without a program' "$status" 2 "$work/nothing" "$work/wanted"
+
+echo 'read fault: nosuch.csv' >"$work/wanted"
+call run pull.sim points.csv nosuch.csv
+compare 'a table that is missing' "$status" 3 "$work/nothing" "$work/wanted"
+
+echo 'write fault' >"$work/wanted"
+status=0
+"$program" run pull.sim points.csv springs.csv >/dev/full 2>"$work/note" || status=$?
+: >"$work/out"
+compare 'a full device' "$status" 4 "$work/nothing" "$work/wanted"
+
+head -c 1048577 /dev/zero | tr '\0' '%' >"$work/long.sim"
+echo "limit: $work/long.sim is over 1048576 bytes" >"$work/wanted"
+call run "$work/long.sim" points.csv springs.csv
+compare 'a program that is too long' "$status" 7 "$work/nothing" "$work/wanted"
