@@ -19,8 +19,8 @@ python=${PYTHON:-$(command -v python3)}
 if [ ! -f "$simit" ] || [ ! -x "$simit" ]; then
     cat >&2 <<END
 $job.sh: there is no program at $simit
-Build the proved program first: in crates/simit, 'rt run -- run data/a.sim data/points.csv data/springs.csv' proves
-it, builds it, runs it once and leaves it at crates/simit/out/simit. Then run this script again.
+Build the proved program first: 'rt ci' at the top proves it and leaves it at crates/simit/out/simit. Then run this
+script again.
 A program that stands elsewhere is named by SIMIT, as in: SIMIT=/path/to/simit bench/$job.sh
 END
     exit 1
