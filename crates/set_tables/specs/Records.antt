@@ -31,7 +31,7 @@ pub record ReadsTable (reader : Reader (Bor (List ℕ))) : Type 0 where
   pub flexible : is_flexible reader ≡ true
   pub marks : reader_config reader ≡ default_config
 
--- what reading a record does to the records that are left, and that only memory may be wanting
+-- what reading a record does to the records that are left, and that it refuses only out of memory
 abbrev pub ReadsRow : List (List (List ℕ)) → List (List ℕ) → List (List (List ℕ)) → Result Bool TableFault → Type 0
 ReadsRow old row new (Ok true) = old ≡ row ∷ new
 ReadsRow old row new (Ok false) = old ≡ []

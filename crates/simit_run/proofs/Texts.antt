@@ -21,7 +21,7 @@ pub texts_more : (schemas : List Schema) (sets : List SetValue) (k : ℕ) → k 
     → texts_of (take (k + 1) schemas) (take (k + 1) sets) ≡ texts_of (take k schemas) (take k sets) ++ table_text (schema_at schemas k) (set_at sets k)
 texts_more schemas sets k l m = ap (λ n. texts_of (take n schemas) (take n sets)) (add-one k) ∙ up_to schemas sets k l m
 
--- the tables before one, that one, and those behind it
+-- the tables before one, that one, and those after it
 pub texts_at : (schemas : List Schema) (sets : List SetValue) (k : ℕ) → k < length schemas → k < length sets
     → texts_of schemas sets ≡ texts_of (take k schemas) (take k sets) ++ table_text (schema_at schemas k) (set_at sets k) ++ texts_of (drop (suc k) schemas) (drop (suc k) sets)
 texts_at [] sets k l m = absurd (omega arith)

@@ -53,7 +53,7 @@ impl<T> L<T> {
 impl<T: Drop> L<T> {
     ghost use Rattle.std.specs.Prelude.{◌≡◌, [], ◌∷◌, ◌++◌, OnOk, OnErr};
 
-    /// Appends an element. On want of memory the list stays, and the element is given up.
+    /// Appends an element. Out of memory the list stays, and the element is given up.
     pub fn push(&mut self, element: T) -> Result<(), NoMemory>
         ensures pushed { OnOk result (self.new ≡ self.old ++ element ∷ []) }
         ensures unchanged { OnErr result (self.new ≡ self.old) }
