@@ -7,12 +7,15 @@
 mod condition;
 mod declaration;
 mod expression;
+mod indices;
+mod lowered;
 mod program;
 mod statement;
 
 pub use condition::{Cmp, CmpOp, Cond, Conjunction};
 pub use declaration::{Decl, Field, Local, Param, ParamKind, ResultDecl};
 pub use expression::{Expr, ProductFactor, Row, SumTerm};
+pub use lowered::Lowered;
 pub use program::Program;
 use ring_words::Text;
 pub use statement::{Index, IxAtom, IxTerm, Place, Right, Stmt, Target};
