@@ -97,7 +97,7 @@ pub record Begins (text : List ℕ) (tokens_so_far : List Token) (last : Token) 
 
 -- ---- the ways from one token on
 
-is_end-other : (kind : TokenKind) → (kind ≡ End → ⊥) → is_end kind ≡ false
+pub is_end-other : (kind : TokenKind) → (kind ≡ End → ⊥) → is_end kind ≡ false
 is_end-other Name differs = refl
 is_end-other Number differs = refl
 is_end-other (Keyword n) differs = refl

@@ -173,7 +173,7 @@ position_none p xs e k d lt =
       | inr past ↦ fails_before_first p xs k d (omega arith)
     ]
 
-position_some : {X : Type 0} (p : X → Bool) (xs : List X) (k : ℕ) → position p xs ≡ Some k → (k < length xs) × ((d : X) → p (get_or xs k d) ≡ true)
+pub position_some : {X : Type 0} (p : X → Bool) (xs : List X) (k : ℕ) → position p xs ≡ Some k → (k < length xs) × ((d : X) → p (get_or xs k d) ≡ true)
 position_some p xs k e =
     elim (cases_lt (position_or_len p xs) (length xs)) [
       | inl found ↦
@@ -199,7 +199,7 @@ WordSpells words Name word = ¬ (Contains words word)
 WordSpells words (Keyword n) word = (n < length words) × (slice_index_or words n [] ≡ word)
 WordSpells words _ word = ⊥
 
-word_spells : (words : List (List ℕ)) (word : List ℕ) (o : Option ℕ) → position (λ k. bytes_eq k word) words ≡ o → WordSpells words (kind_of_keyword o) word
+pub word_spells : (words : List (List ℕ)) (word : List ℕ) (o : Option ℕ) → position (λ k. bytes_eq k word) words ≡ o → WordSpells words (kind_of_keyword o) word
 word_spells words word None e =
     λ (k, lt, is). let other = position_none (λ w. bytes_eq w word) words e k word lt in
     let same = (bytes_eq-Decides (get_or words k word) word).1 is in absurd (let h : true ≡ false = sym same ∙ other in cc)
@@ -329,7 +329,7 @@ separates_at (Keyword k) text n h more = h.inner (more (λ e. cc))
 separates_at (Symbol k) text n h more = h.inner (more (λ e. cc))
 separates_at End text n h more = h.last
 
-range_is : (text : List ℕ) (offset n : ℕ) → slice_range text offset (offset + n) ≡ take n (drop offset text)
+pub range_is : (text : List ℕ) (offset n : ℕ) → slice_range text offset (offset + n) ≡ take n (drop offset text)
 range_is text offset n = ap (λ k. take k (drop offset text)) (let e : offset + n - offset ≡ n = omega arith in e)
 
 -- the longest in what is left of a text is the longest at that offset
@@ -390,7 +390,7 @@ depth_ok depth token next_depth e name =
       | inr short ↦ short
     ]
 
-bind_ok : {A B : Type 0} (r : Result A LexFault) (f : A → Result B LexFault) (y : B) → (r >>= f) ≡ Ok y → (x : A) × (r ≡ Ok x) × (f x ≡ Ok y)
+pub bind_ok : {A B : Type 0} (r : Result A LexFault) (f : A → Result B LexFault) (y : B) → (r >>= f) ≡ Ok y → (x : A) × (r ≡ Ok x) × (f x ≡ Ok y)
 bind_ok (Ok x) f y e = (x, refl, e)
 bind_ok (Err d) f y e = absurd cc
 

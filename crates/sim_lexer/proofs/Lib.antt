@@ -1,3 +1,5 @@
+pub mod JoinedText
+pub mod JoinedWords
 pub mod Lexing
 pub mod LexingLaw
 pub mod LexingTables

@@ -35,15 +35,15 @@ passing_prefix_within p text n le all =
       | inr le ↦ le
     ]
 
-and_first : (a b : Bool) → (a && b) ≡ true → a ≡ true
+pub and_first : (a b : Bool) → (a && b) ≡ true → a ≡ true
 and_first true b e = refl
 and_first false b e = absurd cc
 
-and_second : (a b : Bool) → (a && b) ≡ true → b ≡ true
+pub and_second : (a b : Bool) → (a && b) ≡ true → b ≡ true
 and_second true b e = e
 and_second false b e = absurd cc
 
-prefix_len-passing : (p : ℕ → Bool) (xs ys : List ℕ) → list_all p xs ≡ true → prefix_len p (xs ++ ys) ≡ length xs + prefix_len p ys
+pub prefix_len-passing : (p : ℕ → Bool) (xs ys : List ℕ) → list_all p xs ≡ true → prefix_len p (xs ++ ys) ≡ length xs + prefix_len p ys
 prefix_len-passing p [] ys all = omega arith
 prefix_len-passing p (x ∷ xs) ys all =
     let others = prefix_len-passing p xs ys (and_second (p x) (list_all p xs) all) in
@@ -51,10 +51,10 @@ prefix_len-passing p (x ∷ xs) ys all =
 
 -- ---- what tokens are spelled as
 
-abbrev is_word : List ℕ → Bool
+abbrev pub is_word : List ℕ → Bool
 is_word word = nat_lt 0 (length word) && (is_letter (slice_index word 0) && list_all is_name_byte word)
 
-word_from_test : (word : List ℕ) → is_word word ≡ true → IsWord word
+pub word_from_test : (word : List ℕ) → is_word word ≡ true → IsWord word
 word_from_test word e =
     let later = and_second (nat_lt 0 (length word)) (is_letter (slice_index word 0) && list_all is_name_byte word) e in (
       ltb-true 0 (length word) (and_first (nat_lt 0 (length word)) (is_letter (slice_index word 0) && list_all is_name_byte word) e),
@@ -75,10 +75,10 @@ first_byte : (n b : ℕ) (rest : List ℕ) → 0 < n → slice_index (take n (b 
 first_byte zero b rest lt = absurd (omega arith)
 first_byte (suc n) b rest lt = refl
 
-letter_is_no_digit : (b : ℕ) → is_letter b ≡ true → is_ascii_digit b ≡ false
+pub letter_is_no_digit : (b : ℕ) → is_letter b ≡ true → is_ascii_digit b ≡ false
 letter_is_no_digit b letter = grind (arith, nat_tests)
 
-digit_is_no_letter : (b : ℕ) → is_ascii_digit b ≡ true → is_letter b ≡ false
+pub digit_is_no_letter : (b : ℕ) → is_ascii_digit b ≡ true → is_letter b ≡ false
 digit_is_no_letter b digit = grind (arith, nat_tests)
 
 digits_first : (digits more : List ℕ) → AreDigits digits → is_ascii_digit (slice_index (digits ++ more) 0) ≡ true
@@ -112,7 +112,7 @@ word_is_longest b rest letter n longer le (inr (inr symbol)) = differs is_letter
 -- ---- numbers
 
 -- the length of the number with which a text begins, where so many digits stand before a point
-abbrev number_len_from : List ℕ → ℕ → ℕ
+abbrev pub number_len_from : List ℕ → ℕ → ℕ
 number_len_from text whole = cond (starts_with nat_eq (drop whole text) (codes ".") && nat_lt 0 (digits_len (drop (whole + 1) text))) (whole + 1 + digits_len (drop (whole + 1) text)) whole
 
 whole_within : (text : List ℕ) (whole : ℕ) → whole ≤ number_len_from text whole

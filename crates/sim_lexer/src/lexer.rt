@@ -74,6 +74,15 @@ fn token_after(bytes: &[u8], last: Token) -> Result<Token, LexFault>
     }
 }
 
+/// The line of an offset of a text: 1 and the line feeds before it.
+pub fn line_at(bytes: &[u8], offset: u32) -> u32
+    requires { length bytes.now ≤ MOST_PROGRAM_BYTES }
+    ensures { result ≡ spec.line_at bytes.now offset }
+{
+    let before = bytes.get(..offset as usize).unwrap_or(bytes);
+    1 + line_feeds(before) as u32
+}
+
 /// How many line feeds there are.
 fn line_feeds(bytes: &[u8]) -> usize
     ensures { result ≡ count_by spec.is_line_feed bytes.now }

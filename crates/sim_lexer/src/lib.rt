@@ -2,10 +2,12 @@
 //! the first fault in the text. Blanks and comments separate tokens and are none themselves.
 #![tactic(auto)]
 
+mod joining;
 mod lexer;
 mod token;
 mod tokens;
 
-pub use lexer::lex;
-pub use token::{LexFault, Token, TokenKind, keyword, symbol};
+pub use joining::joining_law;
+pub use lexer::{lex, line_at};
+pub use token::{KEYWORDS, LexFault, SYMBOLS, Token, TokenKind, keyword, symbol};
 pub use tokens::Tokens;
