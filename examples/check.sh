@@ -1,6 +1,6 @@
 #!/bin/sh
-# Runs the built program on every model here and compares what it prints with the file `expected` beside it, and on one
-# command line for each status that a user can bring about.
+# Runs the built program on every model here and compares what it prints with the file `expected` beside it, on one
+# command line for each status that a user can bring about, and on the refused programs that docs/formats.md shows.
 # Usage: sh examples/check.sh [PROGRAM]; without one, the program that `rt ci` built. The first that fails ends it.
 set -eu
 here=$(cd "$(dirname "$0")" && pwd)
@@ -58,3 +58,24 @@ head -c 1048577 /dev/zero | tr '\0' '%' >"$work/long.sim"
 echo "limit: $work/long.sim is over 1048576 bytes" >"$work/wanted"
 call run "$work/long.sim" points.csv springs.csv
 compare 'a program that is too long' "$status" 7 "$work/nothing" "$work/wanted"
+
+# refused LINE NOTE: a program with this text in its sixth line is refused before its table, which isn't there
+refused() {
+    printf 'element P\n  x : int(0);\nend\nextern points : set{P};\nproc main\n  %s\nend\n' "$1" >"$work/wrong.sim"
+    echo "refused: $2" >"$work/wanted"
+    call run "$work/wrong.sim" nosuch.csv
+    compare "a program that is refused: $2" "$status" 2 "$work/nothing" "$work/wanted"
+}
+
+# repeated COUNT TEXT
+repeated() {
+    yes "$2" | head -n "$1"
+}
+
+refused 'points.x = points.x / 2;' 'line 6, byte 84: bad byte'
+refused "points.x = points.$(repeated 65 y | tr -d '\n');" 'line 6, byte 82: long name'
+refused "points.x = 2*$(repeated 65 '(' | tr -d '\n')1$(repeated 65 ')' | tr -d '\n');" 'line 6, byte 141: too deep'
+refused "$(repeated 9000 '  points.x = points.x;' | sed '1s/^  //')" 'line 8195, byte 188422: too many tokens'
+refused 'points.x = points.x + ;' 'line 6, token 28: syntax'
+refused 'points.x = 2*points.x' 'line 7, token 29: syntax'
+refused 'points.x = points.x*2;' 'not yet'

@@ -7,4 +7,3 @@ pub mod Sums
 pub mod MainProcedure
 pub mod Limits
 pub mod Resolved
-pub mod Parentheses

@@ -17,11 +17,9 @@ mod fault;
 mod functions;
 mod main_procedure;
 mod names;
-mod parentheses;
 mod resolution;
 mod shapes;
 mod sums;
 
 pub use fault::ResolveFault;
-pub use parentheses::main_has_parentheses;
 pub use resolution::resolve;

@@ -1,11 +1,12 @@
 pub mod Rule
-pub mod Read
 pub mod Trees
 pub mod Grammar
+pub mod Read
+pub mod Nests
+pub mod Cursor
 pub mod ReadExpressions
 pub mod ReadConditions
 pub mod ReadFunctions
 pub mod ReadIndices
 pub mod ReadMain
 pub mod ReadProgram
-pub mod Nests

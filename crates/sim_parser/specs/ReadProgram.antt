@@ -1,10 +1,9 @@
--- How declarations and programs are read off the front of the tokens.
-use Rattle.std.specs.Prelude.{ℕ, List, [], ◌∷◌, length, Option, Some, None}
-use Rattle.sim_lexer.specs.declared.token.Token.{Token}
+-- How declarations and programs are read off the front of the words.
+use Rattle.std.specs.Prelude.{ℕ, ◌-◌, List, [], ◌∷◌, length, Option, Result, Ok, Err}
+use Rattle.sim_lexer.specs.Words.{Word}
 use Rattle.sim_lexer.specs.declared.token.TokenKind.TheVariants.{Name, Number, Keyword, Symbol, End}
 use Rattle.sim_lexer.specs.declared.token.keyword.TheConstants as keyword
 use Rattle.sim_lexer.specs.declared.token.symbol.TheConstants as symbol
-use Rattle.sim_syntax.specs.declared.statement.Stmt.{Stmt}
 use Rattle.sim_syntax.specs.declared.declaration.Decl.{Decl}
 use Rattle.sim_syntax.specs.declared.declaration.Field.{Field}
 use Rattle.sim_syntax.specs.declared.declaration.Local.{Local}
@@ -14,135 +13,117 @@ use Rattle.sim_syntax.specs.declared.declaration.ResultDecl.{ResultDecl}
 use Rattle.sim_syntax.specs.declared.program.Program.{Program}
 use Rattle.sim_parser.specs.Rule.{sym, key}
 use Rattle.sim_parser.specs.Trees.{Text, int_of, vector_of, matrix_of, int_kind_of, element_kind_of, ends_kind_of, param_of, vector_result_of, matrix_result_of, result_of, field_of, element_of, set_of, host_of, func_of, program_of}
-use Rattle.sim_parser.specs.Read.{Reader, ◌>>=◌, spelt, ◌⊛◌, ◌▹◌, ◌◃◌, each, choose, made, at, node, separated, maybe_some}
+use Rattle.sim_parser.specs.Read.{Read, Reader, spelt, ◌⊛◌, ◌▹◌, ◌◃◌, each, choose, made, at, node, separated, maybe_some}
 use Rattle.sim_parser.specs.ReadExpressions.{all_names}
 use Rattle.sim_parser.specs.ReadFunctions.{func_body}
 use Rattle.sim_parser.specs.ReadMain.{main_body}
 
-module _ (source : List ℕ) where
-  abbrev name : Reader Text
-  name = spelt source Name
+abbrev name : Reader Text
+name = spelt Name
 
-  abbrev digits : Reader Text
-  digits = spelt source Number
+abbrev digits : Reader Text
+digits = spelt Number
 
-  -- ---- declarations
-  unfoldable pub int : Reader Text
-  int = (Keyword keyword.INT ∷ sym symbol.OPEN_PAREN) ▹ digits ◃ sym symbol.CLOSE_PAREN
+-- ---- declarations
+unfoldable pub int : Reader Text
+int = (Keyword keyword.INT ∷ sym symbol.OPEN_PAREN) ▹ digits ◃ sym symbol.CLOSE_PAREN
 
-  unfoldable pub vector_local : Reader Local
-  vector_local = node vector_of ((Keyword keyword.VECTOR ∷ sym symbol.OPEN_BRACKET) ▹ digits ⊛ (Symbol symbol.CLOSE_BRACKET ∷ sym symbol.OPEN_PAREN) ▹ int ◃ sym symbol.CLOSE_PAREN)
+unfoldable pub vector_local : Reader Local
+vector_local = node vector_of ((Keyword keyword.VECTOR ∷ sym symbol.OPEN_BRACKET) ▹ digits ⊛ (Symbol symbol.CLOSE_BRACKET ∷ sym symbol.OPEN_PAREN) ▹ int ◃ sym symbol.CLOSE_PAREN)
 
-  -- the columns and the scale of a matrix
-  unfoldable pub matrix_parts : Reader (Text × Text)
-  matrix_parts = sym symbol.COMMA ▹ digits ⊛ (Symbol symbol.CLOSE_BRACKET ∷ sym symbol.OPEN_PAREN) ▹ int
+unfoldable pub matrix_local : Reader Local
+matrix_local = node matrix_of ((Keyword keyword.MATRIX ∷ sym symbol.OPEN_BRACKET) ▹ digits ⊛ sym symbol.COMMA ▹ digits ⊛ (Symbol symbol.CLOSE_BRACKET ∷ sym symbol.OPEN_PAREN) ▹ int ◃ sym symbol.CLOSE_PAREN)
 
-  unfoldable pub matrix_local : Reader Local
-  matrix_local = node matrix_of ((Keyword keyword.MATRIX ∷ sym symbol.OPEN_BRACKET) ▹ digits ⊛ matrix_parts ◃ sym symbol.CLOSE_PAREN)
+unfoldable pub int_local : Reader Local
+int_local = node int_of int
 
-  unfoldable pub int_local : Reader Local
-  int_local = node int_of int
+unfoldable pub local : Reader Local
+local = choose (key keyword.INT) int_local (choose (key keyword.VECTOR) vector_local matrix_local)
 
-  unfoldable pub local : Reader Local
-  local = choose (key keyword.INT) int_local (choose (key keyword.VECTOR) vector_local matrix_local)
+unfoldable pub ends_kind : Reader ParamKind
+ends_kind = node ends_kind_of (sym symbol.OPEN_PAREN ▹ name ⊛ sym symbol.STAR ▹ digits ◃ sym symbol.CLOSE_PAREN)
 
-  unfoldable pub ends_kind : Reader ParamKind
-  ends_kind = node ends_kind_of (sym symbol.OPEN_PAREN ▹ name ⊛ sym symbol.STAR ▹ digits ◃ sym symbol.CLOSE_PAREN)
+unfoldable pub int_kind : Reader ParamKind
+int_kind = node int_kind_of int
 
-  unfoldable pub int_kind : Reader ParamKind
-  int_kind = node int_kind_of int
+unfoldable pub element_kind : Reader ParamKind
+element_kind = node element_kind_of name
 
-  unfoldable pub element_kind : Reader ParamKind
-  element_kind = node element_kind_of name
+unfoldable pub param_kind : Reader ParamKind
+param_kind = choose (key keyword.INT) int_kind (choose (Name ∷ []) element_kind ends_kind)
 
-  unfoldable pub param_kind : Reader ParamKind
-  param_kind = choose (key keyword.INT) int_kind (choose (Name ∷ []) element_kind ends_kind)
+unfoldable pub param : Reader Param
+param = node param_of (name ⊛ sym symbol.COLON ▹ param_kind)
 
-  unfoldable pub param : Reader Param
-  param = node param_of (name ⊛ sym symbol.COLON ▹ param_kind)
+unfoldable pub params : Reader (List Param)
+params = separated (sym symbol.COMMA) param
 
-  unfoldable pub params : Reader (List Param)
-  params = separated (sym symbol.COMMA) param
+unfoldable pub vector_shape : Reader (Text × (Option Text × Local))
+vector_shape = made vector_result_of ((Keyword keyword.VECTOR ∷ sym symbol.OPEN_BRACKET) ▹ name ⊛ (Symbol symbol.CLOSE_BRACKET ∷ sym symbol.OPEN_PAREN) ▹ local ◃ sym symbol.CLOSE_PAREN)
 
-  unfoldable pub vector_shape : Reader (Text × (Option Text × Local))
-  vector_shape = made vector_result_of ((Keyword keyword.VECTOR ∷ sym symbol.OPEN_BRACKET) ▹ name ⊛ (Symbol symbol.CLOSE_BRACKET ∷ sym symbol.OPEN_PAREN) ▹ local ◃ sym symbol.CLOSE_PAREN)
+unfoldable pub matrix_shape : Reader (Text × (Option Text × Local))
+matrix_shape = made matrix_result_of ((Keyword keyword.MATRIX ∷ sym symbol.OPEN_BRACKET) ▹ name ⊛ sym symbol.COMMA ▹ name ⊛ (Symbol symbol.CLOSE_BRACKET ∷ sym symbol.OPEN_PAREN) ▹ local ◃ sym symbol.CLOSE_PAREN)
 
-  -- the columns and the block of a matrix over sets
-  unfoldable pub matrix_shape_parts : Reader (Text × Local)
-  matrix_shape_parts = sym symbol.COMMA ▹ name ⊛ (Symbol symbol.CLOSE_BRACKET ∷ sym symbol.OPEN_PAREN) ▹ local
+unfoldable pub shape : Reader (Text × (Option Text × Local))
+shape = choose (key keyword.VECTOR) vector_shape matrix_shape
 
-  unfoldable pub matrix_shape : Reader (Text × (Option Text × Local))
-  matrix_shape = made matrix_result_of ((Keyword keyword.MATRIX ∷ sym symbol.OPEN_BRACKET) ▹ name ⊛ matrix_shape_parts ◃ sym symbol.CLOSE_PAREN)
+unfoldable pub result : Reader ResultDecl
+result = node result_of (name ⊛ sym symbol.COLON ▹ shape)
 
-  unfoldable pub shape : Reader (Text × (Option Text × Local))
-  shape = choose (key keyword.VECTOR) vector_shape matrix_shape
+unfoldable pub results : Reader (List ResultDecl)
+results = separated (sym symbol.COMMA) result
 
-  unfoldable pub result : Reader ResultDecl
-  result = node result_of (name ⊛ sym symbol.COLON ▹ shape)
+unfoldable pub field : Reader Field
+field = node field_of (name ⊛ sym symbol.COLON ▹ local ◃ sym symbol.SEMICOLON)
 
-  unfoldable pub results : Reader (List ResultDecl)
-  results = separated (sym symbol.COMMA) result
+unfoldable pub fields : Reader (List Field)
+fields = each (Name ∷ []) field
 
-  unfoldable pub field : Reader Field
-  field = node field_of (name ⊛ sym symbol.COLON ▹ local ◃ sym symbol.SEMICOLON)
+unfoldable pub element : Reader Decl
+element = node element_of (key keyword.ELEMENT ▹ name ⊛ fields ◃ key keyword.END)
 
-  unfoldable pub fields : Reader (List Field)
-  fields = each (Name ∷ []) field
+unfoldable pub ends : Reader (List Text)
+ends = sym symbol.OPEN_PAREN ▹ all_names ◃ sym symbol.CLOSE_PAREN
 
-  unfoldable pub element : Reader Decl
-  element = node element_of (key keyword.ELEMENT ▹ name ⊛ fields ◃ key keyword.END)
+unfoldable pub maybe_ends : Reader (List Text)
+maybe_ends = maybe_some (sym symbol.OPEN_PAREN) ends
 
-  unfoldable pub ends : Reader (List Text)
-  ends = sym symbol.OPEN_PAREN ▹ all_names source ◃ sym symbol.CLOSE_PAREN
+unfoldable pub set : ℕ → Reader Decl
+set line = made (set_of line) (name ⊛ (Symbol symbol.COLON ∷ Keyword keyword.SET ∷ sym symbol.OPEN_BRACE) ▹ name ⊛ sym symbol.CLOSE_BRACE ▹ maybe_ends ◃ sym symbol.SEMICOLON)
 
-  unfoldable pub maybe_ends : Reader (List Text)
-  maybe_ends = maybe_some (sym symbol.OPEN_PAREN) ends
+unfoldable pub ints : Reader (List Text)
+ints = separated (sym symbol.COMMA) int
 
-  -- the element type and the endpoints of a set
-  unfoldable pub set_parts : Reader (Text × List Text)
-  set_parts = (Symbol symbol.COLON ∷ Keyword keyword.SET ∷ sym symbol.OPEN_BRACE) ▹ name ⊛ sym symbol.CLOSE_BRACE ▹ maybe_ends
+unfoldable pub host : ℕ → Reader Decl
+host line = made (host_of line) (key keyword.FUNC ▹ name ⊛ sym symbol.OPEN_PAREN ▹ ints ⊛ (Symbol symbol.CLOSE_PAREN ∷ sym symbol.ARROW) ▹ int ◃ sym symbol.SEMICOLON)
 
-  unfoldable pub set : ℕ → Reader Decl
-  set line = made (set_of line) (name ⊛ set_parts ◃ sym symbol.SEMICOLON)
+unfoldable pub extern_decl : Reader Decl
+extern_decl = at (λ line. key keyword.EXTERN ▹ choose (Name ∷ []) (set line) (host line))
 
-  unfoldable pub ints : Reader (List Text)
-  ints = separated (sym symbol.COMMA) int
+unfoldable pub func : ℕ → Reader Decl
+func depth = node func_of (key keyword.FUNC ▹ name ⊛ sym symbol.OPEN_PAREN ▹ params
+    ⊛ (Symbol symbol.CLOSE_PAREN ∷ Symbol symbol.ARROW ∷ sym symbol.OPEN_PAREN) ▹ results
+    ⊛ sym symbol.CLOSE_PAREN ▹ func_body depth ◃ key keyword.END)
 
-  -- the arguments and the result of a host function
-  unfoldable pub host_parts : Reader (List Text × Text)
-  host_parts = sym symbol.OPEN_PAREN ▹ ints ⊛ (Symbol symbol.CLOSE_PAREN ∷ sym symbol.ARROW) ▹ int
+unfoldable pub declaration : ℕ → Reader Decl
+declaration depth = choose (key keyword.ELEMENT) element (choose (key keyword.EXTERN) extern_decl (func depth))
 
-  unfoldable pub host : ℕ → Reader Decl
-  host line = made (host_of line) (key keyword.FUNC ▹ name ⊛ host_parts ◃ sym symbol.SEMICOLON)
+unfoldable pub declarations : ℕ → Reader (List Decl)
+declarations depth = each (Keyword keyword.ELEMENT ∷ Keyword keyword.EXTERN ∷ key keyword.FUNC) (declaration depth)
 
-  unfoldable pub extern_decl : Reader Decl
-  extern_decl = at (λ line. key keyword.EXTERN ▹ choose (Name ∷ []) (set line) (host line))
+unfoldable pub program : ℕ → Reader Program
+program depth = node program_of (declarations depth ⊛ (Keyword keyword.PROC ∷ key keyword.MAIN) ▹ main_body depth ◃ key keyword.END)
 
-  -- the results and the body of a function
-  unfoldable pub func_results : ℕ → Reader (List ResultDecl × List Stmt)
-  func_results room = (Symbol symbol.CLOSE_PAREN ∷ Symbol symbol.ARROW ∷ sym symbol.OPEN_PAREN) ▹ results ⊛ sym symbol.CLOSE_PAREN ▹ func_body source room
+-- a program and the end of the text
+unfoldable pub program_text : ℕ → Reader Program
+program_text depth = program depth ◃ (End ∷ [])
 
-  -- the parameters, the results and the body of a function
-  unfoldable pub func_params : ℕ → Reader (List Param × (List ResultDecl × List Stmt))
-  func_params room = sym symbol.OPEN_PAREN ▹ params ⊛ func_results room
+-- the program, or the place of the word that can't go on, counted from the first
+abbrev pub answered : ℕ → Read Program → Result Program ℕ
+answered count (Ok read) = Ok read.0
+answered count (Err stuck) = Err (count - length stuck)
 
-  unfoldable pub func : ℕ → Reader Decl
-  func room = node func_of (key keyword.FUNC ▹ name ⊛ func_params room ◃ key keyword.END)
-
-  unfoldable pub declaration : ℕ → Reader Decl
-  declaration room = choose (key keyword.ELEMENT) element (choose (key keyword.EXTERN) extern_decl (func room))
-
-  unfoldable pub declarations : ℕ → Reader (List Decl)
-  declarations room = each (Keyword keyword.ELEMENT ∷ Keyword keyword.EXTERN ∷ key keyword.FUNC) (declaration room)
-
-  unfoldable pub program : ℕ → Reader Program
-  program room = node program_of (declarations room ⊛ (Keyword keyword.PROC ∷ key keyword.MAIN) ▹ main_body source room ◃ (Keyword keyword.END ∷ End ∷ []))
-
--- what is read, where nothing is left behind it
-abbrev pub alone : {A : Type 0} → A × List Token → Option A
-alone (value, []) = Some value
-alone (value, rest) = None
-
--- the program of tokens: each level of nesting takes a token or more, so there is room for all
-unfoldable pub program_in : List ℕ → List Token → Option Program
-program_in source ts = program source (length ts) ts >>= alone
+-- the program of a text's words, or the place where they stop being a cut of one: each level of nesting takes a word or more,
+-- so no text nests deeper than it has words
+unfoldable pub program_in : List Word → Result Program ℕ
+program_in words = answered (length words) (program_text (length words) words)

@@ -1,184 +1,107 @@
-//! Reads conditions.
+//! Conditions.
 
-ghost use Rattle.std.specs.Prelude.{◌≡◌, IfOk, [], ◌∷◌};
-ghost use Rattle.sim_parser.specs.ReadExpressions as expressions;
-ghost use Rattle.sim_parser.specs.ReadConditions as conditions;
+ghost use Rattle.std.specs.Prelude.{[], ◌∷◌};
+ghost use Rattle.sim_parser.specs.ReadConditions as spec;
+ghost use Rattle.sim_parser.specs.ReadExpressions.{expression};
 ghost use Rattle.sim_parser.specs.Read as read;
-ghost use Rattle.sim_parser.specs.Read.{AreOf, Gives};
+ghost use Rattle.sim_parser.specs.Read.{Reads};
 
+use crate::cursor::Cursor;
 use crate::expressions::expression;
+use crate::halt::Halt;
 use crate::lists::separated;
-use crate::parts::{ParseFault, line_of, skip, starts, whether};
-use sim_lexer::{Token, TokenKind, keyword, symbol};
+use sim_lexer::{TokenKind, keyword, symbol};
 use sim_syntax::{Cmp, CmpOp, Cond, Conjunction};
 use sqlite_items::Items;
 use std::alloc::Global;
 
-/// A comparison that a token of this kind states.
-#[tactic(auto)]
-fn stated<'a>(
-    source: &[u8],
-    kind: TokenKind,
-    op: CmpOp,
-    tokens: &'a [Token],
-) -> Result<(CmpOp, &'a [Token]), ParseFault>
-    requires { AreOf source.now tokens.now }
-    ensures read { Gives (λ x. (x.0, x.1.now)) result (read.fixed (kind ∷ []) op tokens.now) }
-    ensures sound { IfOk result (λ x. AreOf source.now x.1.now) }
+/// The comparison that a token of a kind states.
+fn stated(cursor: &mut Cursor<'_>, kind: TokenKind, op: CmpOp) -> Result<CmpOp, Halt>
+    ensures { Reads (read.fixed (kind ∷ []) op cursor.old) result cursor.new }
 {
-    let rest = skip(source, &[kind], tokens)?;
-    Ok((op, rest))
+    cursor.skip(&[kind])?;
+    Ok(op)
 }
 
 /// How two values are compared.
 #[tactic(auto, unfolding(crate::specs::ReadConditions::comparison))]
-fn comparison<'a>(source: &[u8], tokens: &'a [Token]) -> Result<(CmpOp, &'a [Token]), ParseFault>
-    requires { AreOf source.now tokens.now }
-    ensures read { Gives (λ x. (x.0, x.1.now)) result (conditions.comparison tokens.now) }
-    ensures sound { IfOk result (λ x. AreOf source.now x.1.now) }
+fn comparison(cursor: &mut Cursor<'_>) -> Result<CmpOp, Halt>
+    ensures { Reads (spec.comparison cursor.old) result cursor.new }
 {
-    let (op, rest) = if starts(&[TokenKind::Symbol(symbol::EQUAL)], tokens) {
-        stated(
-            source,
-            TokenKind::Symbol(symbol::EQUAL),
-            CmpOp::Equal,
-            tokens,
-        )?
-    } else if starts(&[TokenKind::Symbol(symbol::DIFFERS)], tokens) {
-        stated(
-            source,
-            TokenKind::Symbol(symbol::DIFFERS),
-            CmpOp::Differs,
-            tokens,
-        )?
-    } else if starts(&[TokenKind::Symbol(symbol::LESS)], tokens) {
-        stated(source, TokenKind::Symbol(symbol::LESS), CmpOp::Less, tokens)?
-    } else if starts(&[TokenKind::Symbol(symbol::AT_MOST)], tokens) {
-        stated(
-            source,
-            TokenKind::Symbol(symbol::AT_MOST),
-            CmpOp::AtMost,
-            tokens,
-        )?
-    } else if starts(&[TokenKind::Symbol(symbol::GREATER)], tokens) {
-        stated(
-            source,
-            TokenKind::Symbol(symbol::GREATER),
-            CmpOp::Greater,
-            tokens,
-        )?
+    if cursor.is_at(TokenKind::Symbol(symbol::EQUAL)) {
+        stated(cursor, TokenKind::Symbol(symbol::EQUAL), CmpOp::Equal)
+    } else if cursor.is_at(TokenKind::Symbol(symbol::DIFFERS)) {
+        stated(cursor, TokenKind::Symbol(symbol::DIFFERS), CmpOp::Differs)
+    } else if cursor.is_at(TokenKind::Symbol(symbol::LESS)) {
+        stated(cursor, TokenKind::Symbol(symbol::LESS), CmpOp::Less)
+    } else if cursor.is_at(TokenKind::Symbol(symbol::AT_MOST)) {
+        stated(cursor, TokenKind::Symbol(symbol::AT_MOST), CmpOp::AtMost)
+    } else if cursor.is_at(TokenKind::Symbol(symbol::GREATER)) {
+        stated(cursor, TokenKind::Symbol(symbol::GREATER), CmpOp::Greater)
     } else {
-        stated(
-            source,
-            TokenKind::Symbol(symbol::AT_LEAST),
-            CmpOp::AtLeast,
-            tokens,
-        )?
-    };
-    Ok((op, rest))
+        stated(cursor, TokenKind::Symbol(symbol::AT_LEAST), CmpOp::AtLeast)
+    }
 }
 
 /// A comparison.
 #[tactic(auto, unfolding(crate::specs::ReadConditions::cmp))]
-fn cmp<'a>(
-    alloc: Global,
-    source: &[u8],
-    room: usize,
-    tokens: &'a [Token],
-) -> Result<(Cmp, &'a [Token]), ParseFault>
-    requires { AreOf source.now tokens.now }
-    ensures read { Gives (λ x. (x.0, x.1.now)) result (conditions.cmp source.now (expressions.expression source.now room) tokens.now) }
-    ensures sound { IfOk result (λ x. AreOf source.now x.1.now) }
+fn cmp(alloc: Global, cursor: &mut Cursor<'_>, depth: usize) -> Result<Cmp, Halt>
+    ensures { Reads (spec.cmp (expression depth) cursor.old) result cursor.new }
 {
-    let line = line_of(tokens);
-    let (negated, rest) = whether(source, TokenKind::Keyword(keyword::NOT), tokens)?;
-    let (left, rest) = expression(alloc, source, room, rest)?;
-    let (op, rest) = comparison(source, rest)?;
-    let (right, rest) = expression(alloc, source, room, rest)?;
-    let cmp = Cmp {
+    let line = cursor.line();
+    let negated = cursor.eat(TokenKind::Keyword(keyword::NOT));
+    let left = expression(alloc, cursor, depth)?;
+    let op = comparison(cursor)?;
+    let right = expression(alloc, cursor, depth)?;
+    Ok(Cmp {
         line,
         negated,
         left,
         op,
         right,
-    };
-    Ok((cmp, rest))
+    })
 }
 
 /// Comparisons with `and` between.
 #[tactic(auto, unfolding(crate::specs::ReadConditions::cmps))]
-fn cmps<'a>(
-    alloc: Global,
-    source: &[u8],
-    room: usize,
-    tokens: &'a [Token],
-) -> Result<(Items<Cmp>, &'a [Token]), ParseFault>
-    requires { AreOf source.now tokens.now }
-    ensures read { Gives (λ x. (x.0, x.1.now)) result (conditions.cmps source.now (expressions.expression source.now room) tokens.now) }
-    ensures sound { IfOk result (λ x. AreOf source.now x.1.now) }
+fn cmps(alloc: Global, cursor: &mut Cursor<'_>, depth: usize) -> Result<Items<Cmp>, Halt>
+    ensures { Reads (spec.cmps (expression depth) cursor.old) result cursor.new }
 {
-    let (all, rest) = separated(
-        alloc,
-        source,
-        TokenKind::Keyword(keyword::AND),
-        |ts| cmp(alloc, source, room, ts),
-        tokens,
-    )?;
-    Ok((all, rest))
+    let and = TokenKind::Keyword(keyword::AND);
+    let part = |c: &mut Cursor<'_>| cmp(alloc, c, depth);
+    separated(alloc, and, part, cursor)
 }
 
 /// Comparisons that hold together.
 #[tactic(auto, unfolding(crate::specs::ReadConditions::conjunction))]
-fn conjunction<'a>(
-    alloc: Global,
-    source: &[u8],
-    room: usize,
-    tokens: &'a [Token],
-) -> Result<(Conjunction, &'a [Token]), ParseFault>
-    requires { AreOf source.now tokens.now }
-    ensures read { Gives (λ x. (x.0, x.1.now)) result (conditions.conjunction source.now (expressions.expression source.now room) tokens.now) }
-    ensures sound { IfOk result (λ x. AreOf source.now x.1.now) }
+fn conjunction(alloc: Global, cursor: &mut Cursor<'_>, depth: usize) -> Result<Conjunction, Halt>
+    ensures { Reads (spec.conjunction (expression depth) cursor.old) result cursor.new }
 {
-    let line = line_of(tokens);
-    let (parts, rest) = cmps(alloc, source, room, tokens)?;
-    Ok((Conjunction { line, parts }, rest))
+    let line = cursor.line();
+    let parts = cmps(alloc, cursor, depth)?;
+    Ok(Conjunction { line, parts })
 }
 
 /// Conjunctions with `or` between.
 #[tactic(auto, unfolding(crate::specs::ReadConditions::conjunctions))]
-fn conjunctions<'a>(
+fn conjunctions(
     alloc: Global,
-    source: &[u8],
-    room: usize,
-    tokens: &'a [Token],
-) -> Result<(Items<Conjunction>, &'a [Token]), ParseFault>
-    requires { AreOf source.now tokens.now }
-    ensures read { Gives (λ x. (x.0, x.1.now)) result (conditions.conjunctions source.now (expressions.expression source.now room) tokens.now) }
-    ensures sound { IfOk result (λ x. AreOf source.now x.1.now) }
+    cursor: &mut Cursor<'_>,
+    depth: usize,
+) -> Result<Items<Conjunction>, Halt>
+    ensures { Reads (spec.conjunctions (expression depth) cursor.old) result cursor.new }
 {
-    let (all, rest) = separated(
-        alloc,
-        source,
-        TokenKind::Keyword(keyword::OR),
-        |ts| conjunction(alloc, source, room, ts),
-        tokens,
-    )?;
-    Ok((all, rest))
+    let or = TokenKind::Keyword(keyword::OR);
+    let part = |c: &mut Cursor<'_>| conjunction(alloc, c, depth);
+    separated(alloc, or, part, cursor)
 }
 
-/// A condition.
+/// A condition, in which expressions are nested less than so deep.
 #[tactic(auto, unfolding(crate::specs::ReadConditions::condition))]
-pub fn condition<'a>(
-    alloc: Global,
-    source: &[u8],
-    room: usize,
-    tokens: &'a [Token],
-) -> Result<(Cond, &'a [Token]), ParseFault>
-    requires { AreOf source.now tokens.now }
-    ensures read { Gives (λ x. (x.0, x.1.now)) result (conditions.condition source.now (expressions.expression source.now room) tokens.now) }
-    ensures sound { IfOk result (λ x. AreOf source.now x.1.now) }
+pub fn condition(alloc: Global, cursor: &mut Cursor<'_>, depth: usize) -> Result<Cond, Halt>
+    ensures { Reads (spec.condition (expression depth) cursor.old) result cursor.new }
 {
-    let line = line_of(tokens);
-    let (parts, rest) = conjunctions(alloc, source, room, tokens)?;
-    Ok((Cond { line, parts }, rest))
+    let line = cursor.line();
+    let parts = conjunctions(alloc, cursor, depth)?;
+    Ok(Cond { line, parts })
 }

@@ -1,58 +1,55 @@
-//! Reads expressions.
+//! Expressions.
+//!
+//! The rules that hold expressions take the reader of those inside as a parameter, so that each is proved by itself.
 
-ghost use Rattle.std.specs.Prelude.{◌≡◌, IfOk, Some};
-ghost use Rattle.sim_parser.specs.ReadExpressions as expressions;
-ghost use Rattle.sim_parser.specs.Trees as trees;
-ghost use Rattle.sim_parser.specs.Read.{AreOf, Gives};
+ghost use Rattle.std.specs.Prelude.{◌≡◌, IfOk};
+ghost use Rattle.sim_parser.specs.ReadExpressions as spec;
+ghost use Rattle.sim_parser.specs.Read.{Reads};
 ghost use Rattle.sim_parser.specs.Nests.{Nests};
+ghost use Rattle.sim_parser.specs.Trees as trees;
 
-use crate::lists::{each, in_front, separated};
-use crate::parts::{ParseFault, boxed, digits, line_of, name, skip, starts, whether};
-use sim_lexer::{Token, TokenKind, keyword, symbol};
-use sim_syntax::{Expr, Name, Num, ProductFactor, Row, SumTerm};
-use sqlite_items::Items;
-use std::alloc::Global;
+use crate::cursor::Cursor;
+use crate::halt::Halt;
+use crate::lists::{each, separated, with_first};
+use sim_lexer::{TokenKind, keyword, symbol};
+use sim_syntax::{Expr, Name, ProductFactor, Row, SumTerm};
+use sqlite_items::{Boxed, Items};
+use std::alloc::{AllocError, Global};
 
 /// The rules of expressions, over a reader of the expressions inside.
 #[derive(Clone, Copy)]
-struct Expressions<'a, F> {
-    alloc: Global,
-    /// The text of the program.
-    source: &'a [u8],
-    /// How deep expressions may be nested inside.
-    room: usize,
-    inner: F,
+pub struct Expressions<F> {
+    pub alloc: Global,
+    /// How deep expressions may still be nested.
+    pub depth: usize,
+    pub inner: F,
 }
 
 /// A sign, and whether it is a minus.
 #[tactic(auto, unfolding(crate::specs::ReadExpressions::sign))]
-pub fn sign<'a>(source: &[u8], tokens: &'a [Token]) -> Result<(bool, &'a [Token]), ParseFault>
-    requires { AreOf source.now tokens.now }
-    ensures read { Gives (λ x. (x.0, x.1.now)) result (expressions.sign tokens.now) }
-    ensures sound { IfOk result (λ x. AreOf source.now x.1.now) }
+pub fn sign(cursor: &mut Cursor<'_>) -> Result<bool, Halt>
+    ensures { Reads (spec.sign cursor.old) result cursor.new }
 {
-    if starts(&[TokenKind::Symbol(symbol::PLUS)], tokens) {
-        let rest = skip(source, &[TokenKind::Symbol(symbol::PLUS)], tokens)?;
-        Ok((false, rest))
+    if cursor.is_at(TokenKind::Symbol(symbol::PLUS)) {
+        cursor.skip(&[TokenKind::Symbol(symbol::PLUS)])?;
+        Ok(false)
     } else {
-        let rest = skip(source, &[TokenKind::Symbol(symbol::MINUS)], tokens)?;
-        Ok((true, rest))
+        cursor.skip(&[TokenKind::Symbol(symbol::MINUS)])?;
+        Ok(true)
     }
 }
 
 /// The operator of a product, and whether it is entry by entry.
 #[tactic(auto, unfolding(crate::specs::ReadExpressions::operator))]
-fn operator<'a>(source: &[u8], tokens: &'a [Token]) -> Result<(bool, &'a [Token]), ParseFault>
-    requires { AreOf source.now tokens.now }
-    ensures read { Gives (λ x. (x.0, x.1.now)) result (expressions.operator tokens.now) }
-    ensures sound { IfOk result (λ x. AreOf source.now x.1.now) }
+fn operator(cursor: &mut Cursor<'_>) -> Result<bool, Halt>
+    ensures { Reads (spec.operator cursor.old) result cursor.new }
 {
-    if starts(&[TokenKind::Symbol(symbol::STAR)], tokens) {
-        let rest = skip(source, &[TokenKind::Symbol(symbol::STAR)], tokens)?;
-        Ok((false, rest))
+    if cursor.is_at(TokenKind::Symbol(symbol::STAR)) {
+        cursor.skip(&[TokenKind::Symbol(symbol::STAR)])?;
+        Ok(false)
     } else {
-        let rest = skip(source, &[TokenKind::Symbol(symbol::ENTRYWISE)], tokens)?;
-        Ok((true, rest))
+        cursor.skip(&[TokenKind::Symbol(symbol::ENTRYWISE)])?;
+        Ok(true)
     }
 }
 
@@ -63,18 +60,19 @@ fn product_of(
     line: u32,
     value: Expr,
     others: Items<ProductFactor>,
-) -> Result<Expr, ParseFault>
-    ensures { Gives (λ product. product) result (Some (trees.product_of line (value, others))) }
+) -> Result<Expr, AllocError>
+    ensures { IfOk result (λ product. product ≡ trees.product_of line (value, others)) }
 {
     if others.is_empty() {
         return Ok(value);
     }
+    let entrywise = false;
     let first = ProductFactor {
         line,
-        entrywise: false,
+        entrywise,
         value,
     };
-    let factors = in_front(alloc, first, others)?;
+    let factors = with_first(alloc, first, others)?;
     Ok(Expr::Product { line, factors })
 }
 
@@ -86,594 +84,405 @@ fn sum_of(
     minus: bool,
     value: Expr,
     others: Items<SumTerm>,
-) -> Result<Expr, ParseFault>
-    ensures { Gives (λ sum. sum) result (Some (trees.sum_of line (minus, (value, others)))) }
+) -> Result<Expr, AllocError>
+    ensures { IfOk result (λ sum. sum ≡ trees.sum_of line (minus, (value, others))) }
 {
     if !minus && others.is_empty() {
         return Ok(value);
     }
     let first = SumTerm { line, minus, value };
-    let terms = in_front(alloc, first, others)?;
+    let terms = with_first(alloc, first, others)?;
     Ok(Expr::Sum { line, terms })
 }
 
-impl<
-    F: for<'s, 't> Fn(
-        Global,
-        &'s [u8],
-        usize,
-        &'t [Token],
-    ) -> Result<(Expr, &'t [Token]), ParseFault>,
-> Expressions<'_, F> {
+impl<F: Fn(Global, &mut Cursor<'_>, usize) -> Result<Expr, Halt>> Expressions<F> {
     /// An expression inside.
-    fn inner<'a>(&self, tokens: &'a [Token]) -> Result<(Expr, &'a [Token]), ParseFault>
-        requires nests { Nests expressions.expression self.now.room (F.pre self.now.inner) (F.post self.now.inner) }
-        requires tokens { AreOf self.now.source.now tokens.now }
-        ensures read { Gives (λ x. (x.0, x.1.now)) result (expressions.expression self.now.source.now self.now.room tokens.now) }
-        ensures sound { IfOk result (λ x. AreOf self.now.source.now x.1.now) }
+    fn inner(&self, cursor: &mut Cursor<'_>) -> Result<Expr, Halt>
+        requires { Nests spec.expression self.now.depth (F.pre self.now.inner) (F.post self.now.inner) }
+        ensures { Reads (spec.expression self.now.depth cursor.old) result cursor.new }
     {
-        (self.inner)(self.alloc, self.source, self.room, tokens)
+        (self.inner)(self.alloc, cursor, self.depth)
+    }
+
+    /// An expression inside, in a box.
+    fn boxed(&self, cursor: &mut Cursor<'_>) -> Result<Boxed<Expr>, Halt>
+        requires { Nests spec.expression self.now.depth (F.pre self.now.inner) (F.post self.now.inner) }
+        ensures { Reads (spec.expression self.now.depth cursor.old) result cursor.new }
+    {
+        let value = self.inner(cursor)?;
+        Ok(Boxed::new(self.alloc, value)?)
     }
 
     /// Expressions with commas between.
     #[tactic(auto, unfolding(crate::specs::ReadExpressions::expressions))]
-    fn expressions<'a>(&self, tokens: &'a [Token]) -> Result<(Items<Expr>, &'a [Token]), ParseFault>
-        requires nests { Nests expressions.expression self.now.room (F.pre self.now.inner) (F.post self.now.inner) }
-        requires tokens { AreOf self.now.source.now tokens.now }
-        ensures read { Gives (λ x. (x.0, x.1.now)) result (expressions.expressions self.now.source.now (expressions.expression self.now.source.now self.now.room) tokens.now) }
-        ensures sound { IfOk result (λ x. AreOf self.now.source.now x.1.now) }
+    fn expressions(&self, cursor: &mut Cursor<'_>) -> Result<Items<Expr>, Halt>
+        requires { Nests spec.expression self.now.depth (F.pre self.now.inner) (F.post self.now.inner) }
+        ensures { Reads (spec.expressions (spec.expression self.now.depth) cursor.old) result cursor.new }
     {
-        let (all, rest) = separated(
-            self.alloc,
-            self.source,
-            TokenKind::Symbol(symbol::COMMA),
-            |ts| self.inner(ts),
-            tokens,
-        )?;
-        Ok((all, rest))
+        let comma = TokenKind::Symbol(symbol::COMMA);
+        let inner = |c: &mut Cursor<'_>| self.inner(c);
+        separated(self.alloc, comma, inner, cursor)
     }
 
     /// Arguments in parentheses.
     #[tactic(auto, unfolding(crate::specs::ReadExpressions::arguments))]
-    fn arguments<'a>(&self, tokens: &'a [Token]) -> Result<(Items<Expr>, &'a [Token]), ParseFault>
-        requires nests { Nests expressions.expression self.now.room (F.pre self.now.inner) (F.post self.now.inner) }
-        requires tokens { AreOf self.now.source.now tokens.now }
-        ensures read { Gives (λ x. (x.0, x.1.now)) result (expressions.arguments self.now.source.now (expressions.expression self.now.source.now self.now.room) tokens.now) }
-        ensures sound { IfOk result (λ x. AreOf self.now.source.now x.1.now) }
+    fn arguments(&self, cursor: &mut Cursor<'_>) -> Result<Items<Expr>, Halt>
+        requires { Nests spec.expression self.now.depth (F.pre self.now.inner) (F.post self.now.inner) }
+        ensures { Reads (spec.arguments (spec.expression self.now.depth) cursor.old) result cursor.new }
     {
-        let rest = skip(
-            self.source,
-            &[TokenKind::Symbol(symbol::OPEN_PAREN)],
-            tokens,
-        )?;
-        let (all, rest) = self.expressions(rest)?;
-        let rest = skip(self.source, &[TokenKind::Symbol(symbol::CLOSE_PAREN)], rest)?;
-        Ok((all, rest))
+        cursor.skip(&[TokenKind::Symbol(symbol::OPEN_PAREN)])?;
+        let all = self.expressions(cursor)?;
+        cursor.skip(&[TokenKind::Symbol(symbol::CLOSE_PAREN)])?;
+        Ok(all)
     }
 
     /// Arguments, where there are any.
     #[tactic(auto, unfolding(crate::specs::ReadExpressions::maybe_arguments, crate::specs::Read::skip))]
-    fn maybe_arguments<'a>(
-        &self,
-        tokens: &'a [Token],
-    ) -> Result<(Items<Expr>, &'a [Token]), ParseFault>
-        requires nests { Nests expressions.expression self.now.room (F.pre self.now.inner) (F.post self.now.inner) }
-        requires tokens { AreOf self.now.source.now tokens.now }
-        ensures read { Gives (λ x. (x.0, x.1.now)) result (expressions.maybe_arguments self.now.source.now (expressions.expression self.now.source.now self.now.room) tokens.now) }
-        ensures sound { IfOk result (λ x. AreOf self.now.source.now x.1.now) }
+    pub fn maybe_arguments(&self, cursor: &mut Cursor<'_>) -> Result<Items<Expr>, Halt>
+        requires { Nests spec.expression self.now.depth (F.pre self.now.inner) (F.post self.now.inner) }
+        ensures { Reads (spec.maybe_arguments (spec.expression self.now.depth) cursor.old) result cursor.new }
     {
-        if starts(&[TokenKind::Symbol(symbol::OPEN_PAREN)], tokens) {
-            let (all, rest) = self.arguments(tokens)?;
-            return Ok((all, rest));
+        if cursor.is_at(TokenKind::Symbol(symbol::OPEN_PAREN)) {
+            self.arguments(cursor)
+        } else {
+            Ok(Items::new(self.alloc))
         }
-        Ok((Items::new(self.alloc), tokens))
     }
 
-    /// A field behind a point, with its arguments.
-    #[tactic(auto, unfolding(crate::specs::ReadExpressions::field_ref))]
-    fn field_ref<'a>(
-        &self,
-        tokens: &'a [Token],
-    ) -> Result<((Option<Name>, Items<Expr>), &'a [Token]), ParseFault>
-        requires nests { Nests expressions.expression self.now.room (F.pre self.now.inner) (F.post self.now.inner) }
-        requires tokens { AreOf self.now.source.now tokens.now }
-        ensures read { Gives (λ x. (x.0, x.1.now)) result (expressions.field_ref self.now.source.now (expressions.expression self.now.source.now self.now.room) tokens.now) }
-        ensures sound { IfOk result (λ x. AreOf self.now.source.now x.1.now) }
+    /// A field after a point, with its arguments, where there is one.
+    #[tactic(auto, unfolding(crate::specs::ReadExpressions::maybe_field_ref, crate::specs::ReadExpressions::field_ref, crate::specs::Read::skip))]
+    fn maybe_field_ref(&self, cursor: &mut Cursor<'_>) -> Result<(Option<Name>, Items<Expr>), Halt>
+        requires { Nests spec.expression self.now.depth (F.pre self.now.inner) (F.post self.now.inner) }
+        ensures { Reads (spec.maybe_field_ref (spec.expression self.now.depth) cursor.old) result cursor.new }
     {
-        let rest = skip(self.source, &[TokenKind::Symbol(symbol::POINT)], tokens)?;
-        let (field, rest) = name(self.alloc, self.source, rest)?;
-        let (args, rest) = self.maybe_arguments(rest)?;
-        Ok(((Some(field), args), rest))
-    }
-
-    /// A field with its arguments, where there is one.
-    #[tactic(auto, unfolding(crate::specs::ReadExpressions::maybe_field_ref, crate::specs::Read::skip))]
-    fn maybe_field_ref<'a>(
-        &self,
-        tokens: &'a [Token],
-    ) -> Result<((Option<Name>, Items<Expr>), &'a [Token]), ParseFault>
-        requires nests { Nests expressions.expression self.now.room (F.pre self.now.inner) (F.post self.now.inner) }
-        requires tokens { AreOf self.now.source.now tokens.now }
-        ensures read { Gives (λ x. (x.0, x.1.now)) result (expressions.maybe_field_ref self.now.source.now (expressions.expression self.now.source.now self.now.room) tokens.now) }
-        ensures sound { IfOk result (λ x. AreOf self.now.source.now x.1.now) }
-    {
-        if starts(&[TokenKind::Symbol(symbol::POINT)], tokens) {
-            let (field, rest) = self.field_ref(tokens)?;
-            return Ok((field, rest));
+        if !cursor.is_at(TokenKind::Symbol(symbol::POINT)) {
+            return Ok((None, Items::new(self.alloc)));
         }
-        Ok(((None, Items::new(self.alloc)), tokens))
+        cursor.skip(&[TokenKind::Symbol(symbol::POINT)])?;
+        let field = cursor.name(self.alloc)?;
+        let args = self.maybe_arguments(cursor)?;
+        Ok((Some(field), args))
     }
 
-    /// A name with its arguments and its field.
+    /// A name, and what stands after it in its reference.
     #[tactic(auto, unfolding(crate::specs::ReadExpressions::reference))]
-    fn reference<'a>(&self, tokens: &'a [Token]) -> Result<(Expr, &'a [Token]), ParseFault>
-        requires nests { Nests expressions.expression self.now.room (F.pre self.now.inner) (F.post self.now.inner) }
-        requires tokens { AreOf self.now.source.now tokens.now }
-        ensures read { Gives (λ x. (x.0, x.1.now)) result (expressions.reference self.now.source.now (expressions.expression self.now.source.now self.now.room) tokens.now) }
-        ensures sound { IfOk result (λ x. AreOf self.now.source.now x.1.now) }
+    fn reference(&self, cursor: &mut Cursor<'_>) -> Result<Expr, Halt>
+        requires { Nests spec.expression self.now.depth (F.pre self.now.inner) (F.post self.now.inner) }
+        ensures { Reads (spec.reference (spec.expression self.now.depth) cursor.old) result cursor.new }
     {
-        let line = line_of(tokens);
-        let (name, rest) = name(self.alloc, self.source, tokens)?;
-        let (args, rest) = self.maybe_arguments(rest)?;
-        let ((field, field_args), rest) = self.maybe_field_ref(rest)?;
-        let reference = Expr::Ref {
+        let line = cursor.line();
+        let name = cursor.name(self.alloc)?;
+        let args = self.maybe_arguments(cursor)?;
+        let (field, field_args) = self.maybe_field_ref(cursor)?;
+        Ok(Expr::Ref {
             line,
             name,
             args,
             field,
             field_args,
             rank: None,
-        };
-        Ok((reference, rest))
+        })
     }
 
-    /// An expression in parentheses, which leave no node.
+    /// An expression in parentheses.
     #[tactic(auto, unfolding(crate::specs::ReadExpressions::parenthesised))]
-    fn parenthesised<'a>(&self, tokens: &'a [Token]) -> Result<(Expr, &'a [Token]), ParseFault>
-        requires nests { Nests expressions.expression self.now.room (F.pre self.now.inner) (F.post self.now.inner) }
-        requires tokens { AreOf self.now.source.now tokens.now }
-        ensures read { Gives (λ x. (x.0, x.1.now)) result (expressions.parenthesised self.now.source.now (expressions.expression self.now.source.now self.now.room) tokens.now) }
-        ensures sound { IfOk result (λ x. AreOf self.now.source.now x.1.now) }
+    fn parenthesised(&self, cursor: &mut Cursor<'_>) -> Result<Expr, Halt>
+        requires { Nests spec.expression self.now.depth (F.pre self.now.inner) (F.post self.now.inner) }
+        ensures { Reads (spec.parenthesised (spec.expression self.now.depth) cursor.old) result cursor.new }
     {
-        let rest = skip(
-            self.source,
-            &[TokenKind::Symbol(symbol::OPEN_PAREN)],
-            tokens,
-        )?;
-        let (value, rest) = self.inner(rest)?;
-        let rest = skip(self.source, &[TokenKind::Symbol(symbol::CLOSE_PAREN)], rest)?;
-        Ok((value, rest))
+        cursor.skip(&[TokenKind::Symbol(symbol::OPEN_PAREN)])?;
+        let value = self.inner(cursor)?;
+        cursor.skip(&[TokenKind::Symbol(symbol::CLOSE_PAREN)])?;
+        Ok(value)
     }
 
     /// A row of a block.
     #[tactic(auto, unfolding(crate::specs::ReadExpressions::row))]
-    fn row<'a>(&self, tokens: &'a [Token]) -> Result<(Row, &'a [Token]), ParseFault>
-        requires nests { Nests expressions.expression self.now.room (F.pre self.now.inner) (F.post self.now.inner) }
-        requires tokens { AreOf self.now.source.now tokens.now }
-        ensures read { Gives (λ x. (x.0, x.1.now)) result (expressions.row self.now.source.now (expressions.expression self.now.source.now self.now.room) tokens.now) }
-        ensures sound { IfOk result (λ x. AreOf self.now.source.now x.1.now) }
+    fn row(&self, cursor: &mut Cursor<'_>) -> Result<Row, Halt>
+        requires { Nests spec.expression self.now.depth (F.pre self.now.inner) (F.post self.now.inner) }
+        ensures { Reads (spec.row (spec.expression self.now.depth) cursor.old) result cursor.new }
     {
-        let line = line_of(tokens);
-        let (entries, rest) = self.expressions(tokens)?;
-        Ok((Row { line, entries }, rest))
+        let line = cursor.line();
+        let entries = self.expressions(cursor)?;
+        Ok(Row { line, entries })
     }
 
     /// Rows with semicolons between.
     #[tactic(auto, unfolding(crate::specs::ReadExpressions::rows))]
-    fn rows<'a>(&self, tokens: &'a [Token]) -> Result<(Items<Row>, &'a [Token]), ParseFault>
-        requires nests { Nests expressions.expression self.now.room (F.pre self.now.inner) (F.post self.now.inner) }
-        requires tokens { AreOf self.now.source.now tokens.now }
-        ensures read { Gives (λ x. (x.0, x.1.now)) result (expressions.rows self.now.source.now (expressions.expression self.now.source.now self.now.room) tokens.now) }
-        ensures sound { IfOk result (λ x. AreOf self.now.source.now x.1.now) }
+    fn rows(&self, cursor: &mut Cursor<'_>) -> Result<Items<Row>, Halt>
+        requires { Nests spec.expression self.now.depth (F.pre self.now.inner) (F.post self.now.inner) }
+        ensures { Reads (spec.rows (spec.expression self.now.depth) cursor.old) result cursor.new }
     {
         let semicolon = TokenKind::Symbol(symbol::SEMICOLON);
-        let (all, rest) = separated(
-            self.alloc,
-            self.source,
-            semicolon,
-            |ts| self.row(ts),
-            tokens,
-        )?;
-        Ok((all, rest))
+        let row = |c: &mut Cursor<'_>| self.row(c);
+        separated(self.alloc, semicolon, row, cursor)
     }
 
-    /// A block.
+    /// A block of rows.
     #[tactic(auto, unfolding(crate::specs::ReadExpressions::block))]
-    fn block<'a>(&self, tokens: &'a [Token]) -> Result<(Expr, &'a [Token]), ParseFault>
-        requires nests { Nests expressions.expression self.now.room (F.pre self.now.inner) (F.post self.now.inner) }
-        requires tokens { AreOf self.now.source.now tokens.now }
-        ensures read { Gives (λ x. (x.0, x.1.now)) result (expressions.block self.now.source.now (expressions.expression self.now.source.now self.now.room) tokens.now) }
-        ensures sound { IfOk result (λ x. AreOf self.now.source.now x.1.now) }
+    fn block(&self, cursor: &mut Cursor<'_>) -> Result<Expr, Halt>
+        requires { Nests spec.expression self.now.depth (F.pre self.now.inner) (F.post self.now.inner) }
+        ensures { Reads (spec.block (spec.expression self.now.depth) cursor.old) result cursor.new }
     {
-        let line = line_of(tokens);
-        let rest = skip(
-            self.source,
-            &[TokenKind::Symbol(symbol::OPEN_BRACKET)],
-            tokens,
-        )?;
-        let (rows, rest) = self.rows(rest)?;
-        let rest = skip(
-            self.source,
-            &[TokenKind::Symbol(symbol::CLOSE_BRACKET)],
-            rest,
-        )?;
-        Ok((Expr::Block { line, rows }, rest))
+        let line = cursor.line();
+        cursor.skip(&[TokenKind::Symbol(symbol::OPEN_BRACKET)])?;
+        let rows = self.rows(cursor)?;
+        cursor.skip(&[TokenKind::Symbol(symbol::CLOSE_BRACKET)])?;
+        Ok(Expr::Block { line, rows })
     }
 
-    /// An expression, and a scale behind a comma.
-    #[tactic(auto, unfolding(crate::specs::ReadExpressions::scaled))]
-    fn scaled<'a>(&self, tokens: &'a [Token]) -> Result<((Expr, Num), &'a [Token]), ParseFault>
-        requires nests { Nests expressions.expression self.now.room (F.pre self.now.inner) (F.post self.now.inner) }
-        requires tokens { AreOf self.now.source.now tokens.now }
-        ensures read { Gives (λ x. (x.0, x.1.now)) result (expressions.scaled self.now.source.now (expressions.expression self.now.source.now self.now.room) tokens.now) }
-        ensures sound { IfOk result (λ x. AreOf self.now.source.now x.1.now) }
-    {
-        let (value, rest) = self.inner(tokens)?;
-        let rest = skip(self.source, &[TokenKind::Symbol(symbol::COMMA)], rest)?;
-        let (scale, rest) = digits(self.alloc, self.source, rest)?;
-        Ok(((value, scale), rest))
-    }
-
-    /// Two expressions with a comma between.
-    #[tactic(auto, unfolding(crate::specs::ReadExpressions::two))]
-    fn two<'a>(&self, tokens: &'a [Token]) -> Result<((Expr, Expr), &'a [Token]), ParseFault>
-        requires nests { Nests expressions.expression self.now.room (F.pre self.now.inner) (F.post self.now.inner) }
-        requires tokens { AreOf self.now.source.now tokens.now }
-        ensures read { Gives (λ x. (x.0, x.1.now)) result (expressions.two self.now.source.now (expressions.expression self.now.source.now self.now.room) tokens.now) }
-        ensures sound { IfOk result (λ x. AreOf self.now.source.now x.1.now) }
-    {
-        let (left, rest) = self.inner(tokens)?;
-        let rest = skip(self.source, &[TokenKind::Symbol(symbol::COMMA)], rest)?;
-        let (right, rest) = self.inner(rest)?;
-        Ok(((left, right), rest))
-    }
-
-    /// A change of scale.
+    /// A value in another scale.
     #[tactic(auto, unfolding(crate::specs::ReadExpressions::rescale))]
-    fn rescale<'a>(&self, tokens: &'a [Token]) -> Result<(Expr, &'a [Token]), ParseFault>
-        requires nests { Nests expressions.expression self.now.room (F.pre self.now.inner) (F.post self.now.inner) }
-        requires tokens { AreOf self.now.source.now tokens.now }
-        ensures read { Gives (λ x. (x.0, x.1.now)) result (expressions.rescale self.now.source.now (expressions.expression self.now.source.now self.now.room) tokens.now) }
-        ensures sound { IfOk result (λ x. AreOf self.now.source.now x.1.now) }
+    fn rescale(&self, cursor: &mut Cursor<'_>) -> Result<Expr, Halt>
+        requires { Nests spec.expression self.now.depth (F.pre self.now.inner) (F.post self.now.inner) }
+        ensures { Reads (spec.rescale (spec.expression self.now.depth) cursor.old) result cursor.new }
     {
-        let line = line_of(tokens);
-        let opening = [
+        let line = cursor.line();
+        cursor.skip(&[
             TokenKind::Keyword(keyword::RESCALE),
             TokenKind::Symbol(symbol::OPEN_PAREN),
-        ];
-        let rest = skip(self.source, &opening, tokens)?;
-        let ((value, scale), rest) = self.scaled(rest)?;
-        let rest = skip(self.source, &[TokenKind::Symbol(symbol::CLOSE_PAREN)], rest)?;
-        let value = boxed(self.alloc, value)?;
-        Ok((Expr::Rescale { line, value, scale }, rest))
-    }
-
-    /// A square root.
-    #[tactic(auto, unfolding(crate::specs::ReadExpressions::isqrt))]
-    fn isqrt<'a>(&self, tokens: &'a [Token]) -> Result<(Expr, &'a [Token]), ParseFault>
-        requires nests { Nests expressions.expression self.now.room (F.pre self.now.inner) (F.post self.now.inner) }
-        requires tokens { AreOf self.now.source.now tokens.now }
-        ensures read { Gives (λ x. (x.0, x.1.now)) result (expressions.isqrt self.now.source.now (expressions.expression self.now.source.now self.now.room) tokens.now) }
-        ensures sound { IfOk result (λ x. AreOf self.now.source.now x.1.now) }
-    {
-        let line = line_of(tokens);
-        let opening = [
-            TokenKind::Keyword(keyword::ISQRT),
-            TokenKind::Symbol(symbol::OPEN_PAREN),
-        ];
-        let rest = skip(self.source, &opening, tokens)?;
-        let ((value, scale), rest) = self.scaled(rest)?;
-        let rest = skip(self.source, &[TokenKind::Symbol(symbol::CLOSE_PAREN)], rest)?;
-        let value = boxed(self.alloc, value)?;
-        Ok((Expr::Isqrt { line, value, scale }, rest))
-    }
-
-    /// The operands and the scale of a quotient.
-    #[tactic(auto, unfolding(crate::specs::ReadExpressions::quot_parts))]
-    fn quot_parts<'a>(
-        &self,
-        tokens: &'a [Token],
-    ) -> Result<((Expr, (Expr, Num)), &'a [Token]), ParseFault>
-        requires nests { Nests expressions.expression self.now.room (F.pre self.now.inner) (F.post self.now.inner) }
-        requires tokens { AreOf self.now.source.now tokens.now }
-        ensures read { Gives (λ x. (x.0, x.1.now)) result (expressions.quot_parts self.now.source.now (expressions.expression self.now.source.now self.now.room) tokens.now) }
-        ensures sound { IfOk result (λ x. AreOf self.now.source.now x.1.now) }
-    {
-        let opening = [
-            TokenKind::Keyword(keyword::QUOT),
-            TokenKind::Symbol(symbol::OPEN_PAREN),
-        ];
-        let rest = skip(self.source, &opening, tokens)?;
-        let (dividend, rest) = self.inner(rest)?;
-        let rest = skip(self.source, &[TokenKind::Symbol(symbol::COMMA)], rest)?;
-        let (divided, rest) = self.scaled(rest)?;
-        let rest = skip(self.source, &[TokenKind::Symbol(symbol::CLOSE_PAREN)], rest)?;
-        Ok(((dividend, divided), rest))
+        ])?;
+        let value = self.boxed(cursor)?;
+        cursor.skip(&[TokenKind::Symbol(symbol::COMMA)])?;
+        let scale = cursor.number(self.alloc)?;
+        cursor.skip(&[TokenKind::Symbol(symbol::CLOSE_PAREN)])?;
+        Ok(Expr::Rescale { line, value, scale })
     }
 
     /// A quotient.
     #[tactic(auto, unfolding(crate::specs::ReadExpressions::quot))]
-    fn quot<'a>(&self, tokens: &'a [Token]) -> Result<(Expr, &'a [Token]), ParseFault>
-        requires nests { Nests expressions.expression self.now.room (F.pre self.now.inner) (F.post self.now.inner) }
-        requires tokens { AreOf self.now.source.now tokens.now }
-        ensures read { Gives (λ x. (x.0, x.1.now)) result (expressions.quot self.now.source.now (expressions.expression self.now.source.now self.now.room) tokens.now) }
-        ensures sound { IfOk result (λ x. AreOf self.now.source.now x.1.now) }
+    fn quot(&self, cursor: &mut Cursor<'_>) -> Result<Expr, Halt>
+        requires { Nests spec.expression self.now.depth (F.pre self.now.inner) (F.post self.now.inner) }
+        ensures { Reads (spec.quot (spec.expression self.now.depth) cursor.old) result cursor.new }
     {
-        let line = line_of(tokens);
-        let ((dividend, (divisor, scale)), rest) = self.quot_parts(tokens)?;
-        let dividend = boxed(self.alloc, dividend)?;
-        let divisor = boxed(self.alloc, divisor)?;
-        let quot = Expr::Quot {
+        let line = cursor.line();
+        cursor.skip(&[
+            TokenKind::Keyword(keyword::QUOT),
+            TokenKind::Symbol(symbol::OPEN_PAREN),
+        ])?;
+        let dividend = self.boxed(cursor)?;
+        cursor.skip(&[TokenKind::Symbol(symbol::COMMA)])?;
+        let divisor = self.boxed(cursor)?;
+        cursor.skip(&[TokenKind::Symbol(symbol::COMMA)])?;
+        let scale = cursor.number(self.alloc)?;
+        cursor.skip(&[TokenKind::Symbol(symbol::CLOSE_PAREN)])?;
+        Ok(Expr::Quot {
             line,
             dividend,
             divisor,
             scale,
-        };
-        Ok((quot, rest))
+        })
     }
 
-    /// The operands of a scalar product.
-    #[tactic(auto, unfolding(crate::specs::ReadExpressions::dot_parts))]
-    fn dot_parts<'a>(&self, tokens: &'a [Token]) -> Result<((Expr, Expr), &'a [Token]), ParseFault>
-        requires nests { Nests expressions.expression self.now.room (F.pre self.now.inner) (F.post self.now.inner) }
-        requires tokens { AreOf self.now.source.now tokens.now }
-        ensures read { Gives (λ x. (x.0, x.1.now)) result (expressions.dot_parts self.now.source.now (expressions.expression self.now.source.now self.now.room) tokens.now) }
-        ensures sound { IfOk result (λ x. AreOf self.now.source.now x.1.now) }
+    /// A square root.
+    #[tactic(auto, unfolding(crate::specs::ReadExpressions::isqrt))]
+    fn isqrt(&self, cursor: &mut Cursor<'_>) -> Result<Expr, Halt>
+        requires { Nests spec.expression self.now.depth (F.pre self.now.inner) (F.post self.now.inner) }
+        ensures { Reads (spec.isqrt (spec.expression self.now.depth) cursor.old) result cursor.new }
     {
-        let opening = [
-            TokenKind::Keyword(keyword::DOT),
+        let line = cursor.line();
+        cursor.skip(&[
+            TokenKind::Keyword(keyword::ISQRT),
             TokenKind::Symbol(symbol::OPEN_PAREN),
-        ];
-        let rest = skip(self.source, &opening, tokens)?;
-        let (operands, rest) = self.two(rest)?;
-        let rest = skip(self.source, &[TokenKind::Symbol(symbol::CLOSE_PAREN)], rest)?;
-        Ok((operands, rest))
+        ])?;
+        let value = self.boxed(cursor)?;
+        cursor.skip(&[TokenKind::Symbol(symbol::COMMA)])?;
+        let scale = cursor.number(self.alloc)?;
+        cursor.skip(&[TokenKind::Symbol(symbol::CLOSE_PAREN)])?;
+        Ok(Expr::Isqrt { line, value, scale })
     }
 
     /// A scalar product.
     #[tactic(auto, unfolding(crate::specs::ReadExpressions::dot))]
-    fn dot<'a>(&self, tokens: &'a [Token]) -> Result<(Expr, &'a [Token]), ParseFault>
-        requires nests { Nests expressions.expression self.now.room (F.pre self.now.inner) (F.post self.now.inner) }
-        requires tokens { AreOf self.now.source.now tokens.now }
-        ensures read { Gives (λ x. (x.0, x.1.now)) result (expressions.dot self.now.source.now (expressions.expression self.now.source.now self.now.room) tokens.now) }
-        ensures sound { IfOk result (λ x. AreOf self.now.source.now x.1.now) }
+    fn dot(&self, cursor: &mut Cursor<'_>) -> Result<Expr, Halt>
+        requires { Nests spec.expression self.now.depth (F.pre self.now.inner) (F.post self.now.inner) }
+        ensures { Reads (spec.dot (spec.expression self.now.depth) cursor.old) result cursor.new }
     {
-        let line = line_of(tokens);
-        let ((left, right), rest) = self.dot_parts(tokens)?;
-        let left = boxed(self.alloc, left)?;
-        let right = boxed(self.alloc, right)?;
-        Ok((Expr::Dot { line, left, right }, rest))
-    }
-
-    /// A number.
-    #[tactic(auto, unfolding(crate::specs::ReadExpressions::number))]
-    fn number<'a>(&self, tokens: &'a [Token]) -> Result<(Expr, &'a [Token]), ParseFault>
-        requires nests { Nests expressions.expression self.now.room (F.pre self.now.inner) (F.post self.now.inner) }
-        requires tokens { AreOf self.now.source.now tokens.now }
-        ensures read { Gives (λ x. (x.0, x.1.now)) result (expressions.number self.now.source.now (expressions.expression self.now.source.now self.now.room) tokens.now) }
-        ensures sound { IfOk result (λ x. AreOf self.now.source.now x.1.now) }
-    {
-        let line = line_of(tokens);
-        let (number, rest) = digits(self.alloc, self.source, tokens)?;
-        Ok((Expr::Number { line, number }, rest))
+        let line = cursor.line();
+        cursor.skip(&[
+            TokenKind::Keyword(keyword::DOT),
+            TokenKind::Symbol(symbol::OPEN_PAREN),
+        ])?;
+        let left = self.boxed(cursor)?;
+        cursor.skip(&[TokenKind::Symbol(symbol::COMMA)])?;
+        let right = self.boxed(cursor)?;
+        cursor.skip(&[TokenKind::Symbol(symbol::CLOSE_PAREN)])?;
+        Ok(Expr::Dot { line, left, right })
     }
 
     /// An atom that begins with a keyword.
     #[tactic(auto, unfolding(crate::specs::ReadExpressions::called))]
-    fn called<'a>(&self, tokens: &'a [Token]) -> Result<(Expr, &'a [Token]), ParseFault>
-        requires nests { Nests expressions.expression self.now.room (F.pre self.now.inner) (F.post self.now.inner) }
-        requires tokens { AreOf self.now.source.now tokens.now }
-        ensures read { Gives (λ x. (x.0, x.1.now)) result (expressions.called self.now.source.now (expressions.expression self.now.source.now self.now.room) tokens.now) }
-        ensures sound { IfOk result (λ x. AreOf self.now.source.now x.1.now) }
+    fn called(&self, cursor: &mut Cursor<'_>) -> Result<Expr, Halt>
+        requires { Nests spec.expression self.now.depth (F.pre self.now.inner) (F.post self.now.inner) }
+        ensures { Reads (spec.called (spec.expression self.now.depth) cursor.old) result cursor.new }
     {
-        let (value, rest) = if starts(&[TokenKind::Keyword(keyword::RESCALE)], tokens) {
-            self.rescale(tokens)?
-        } else if starts(&[TokenKind::Keyword(keyword::QUOT)], tokens) {
-            self.quot(tokens)?
-        } else if starts(&[TokenKind::Keyword(keyword::ISQRT)], tokens) {
-            self.isqrt(tokens)?
+        if cursor.is_at(TokenKind::Keyword(keyword::RESCALE)) {
+            self.rescale(cursor)
+        } else if cursor.is_at(TokenKind::Keyword(keyword::QUOT)) {
+            self.quot(cursor)
+        } else if cursor.is_at(TokenKind::Keyword(keyword::ISQRT)) {
+            self.isqrt(cursor)
         } else {
-            self.dot(tokens)?
-        };
-        Ok((value, rest))
+            self.dot(cursor)
+        }
+    }
+
+    /// A number.
+    #[tactic(auto, unfolding(crate::specs::ReadExpressions::number))]
+    fn number(&self, cursor: &mut Cursor<'_>) -> Result<Expr, Halt>
+        ensures { Reads (spec.number cursor.old) result cursor.new }
+    {
+        let line = cursor.line();
+        let number = cursor.number(self.alloc)?;
+        Ok(Expr::Number { line, number })
     }
 
     /// An atom.
     #[tactic(auto, unfolding(crate::specs::ReadExpressions::atom))]
-    fn atom<'a>(&self, tokens: &'a [Token]) -> Result<(Expr, &'a [Token]), ParseFault>
-        requires nests { Nests expressions.expression self.now.room (F.pre self.now.inner) (F.post self.now.inner) }
-        requires tokens { AreOf self.now.source.now tokens.now }
-        ensures read { Gives (λ x. (x.0, x.1.now)) result (expressions.atom self.now.source.now (expressions.expression self.now.source.now self.now.room) tokens.now) }
-        ensures sound { IfOk result (λ x. AreOf self.now.source.now x.1.now) }
+    fn atom(&self, cursor: &mut Cursor<'_>) -> Result<Expr, Halt>
+        requires { Nests spec.expression self.now.depth (F.pre self.now.inner) (F.post self.now.inner) }
+        ensures { Reads (spec.atom (spec.expression self.now.depth) cursor.old) result cursor.new }
     {
-        let (value, rest) = if starts(&[TokenKind::Number], tokens) {
-            self.number(tokens)?
-        } else if starts(&[TokenKind::Name], tokens) {
-            self.reference(tokens)?
-        } else if starts(&[TokenKind::Symbol(symbol::OPEN_PAREN)], tokens) {
-            self.parenthesised(tokens)?
-        } else if starts(&[TokenKind::Symbol(symbol::OPEN_BRACKET)], tokens) {
-            self.block(tokens)?
+        if cursor.is_at(TokenKind::Number) {
+            self.number(cursor)
+        } else if cursor.is_at(TokenKind::Name) {
+            self.reference(cursor)
+        } else if cursor.is_at(TokenKind::Symbol(symbol::OPEN_PAREN)) {
+            self.parenthesised(cursor)
+        } else if cursor.is_at(TokenKind::Symbol(symbol::OPEN_BRACKET)) {
+            self.block(cursor)
         } else {
-            self.called(tokens)?
-        };
-        Ok((value, rest))
-    }
-
-    /// An atom, transposed where a `'` stands behind it.
-    #[tactic(auto, unfolding(crate::specs::ReadExpressions::post))]
-    fn post<'a>(&self, tokens: &'a [Token]) -> Result<(Expr, &'a [Token]), ParseFault>
-        requires nests { Nests expressions.expression self.now.room (F.pre self.now.inner) (F.post self.now.inner) }
-        requires tokens { AreOf self.now.source.now tokens.now }
-        ensures read { Gives (λ x. (x.0, x.1.now)) result (expressions.post self.now.source.now (expressions.expression self.now.source.now self.now.room) tokens.now) }
-        ensures sound { IfOk result (λ x. AreOf self.now.source.now x.1.now) }
-    {
-        let line = line_of(tokens);
-        let (value, rest) = self.atom(tokens)?;
-        let (transposed, rest) = whether(self.source, TokenKind::Symbol(symbol::TRANSPOSE), rest)?;
-        if !transposed {
-            return Ok((value, rest));
+            self.called(cursor)
         }
-        let value = boxed(self.alloc, value)?;
-        Ok((Expr::Transposed { line, value }, rest))
     }
 
-    /// A factor behind its operator.
-    #[tactic(auto, unfolding(crate::specs::ReadExpressions::factor))]
-    fn factor<'a>(&self, tokens: &'a [Token]) -> Result<(ProductFactor, &'a [Token]), ParseFault>
-        requires nests { Nests expressions.expression self.now.room (F.pre self.now.inner) (F.post self.now.inner) }
-        requires tokens { AreOf self.now.source.now tokens.now }
-        ensures read { Gives (λ x. (x.0, x.1.now)) result (expressions.factor self.now.source.now (expressions.expression self.now.source.now self.now.room) tokens.now) }
-        ensures sound { IfOk result (λ x. AreOf self.now.source.now x.1.now) }
+    /// An atom, transposed where a `'` stands after it.
+    #[tactic(auto, unfolding(crate::specs::ReadExpressions::post))]
+    fn post(&self, cursor: &mut Cursor<'_>) -> Result<Expr, Halt>
+        requires { Nests spec.expression self.now.depth (F.pre self.now.inner) (F.post self.now.inner) }
+        ensures { Reads (spec.post (spec.expression self.now.depth) cursor.old) result cursor.new }
     {
-        let line = line_of(tokens);
-        let (entrywise, rest) = operator(self.source, tokens)?;
-        let (value, rest) = self.post(rest)?;
-        let factor = ProductFactor {
+        let line = cursor.line();
+        let value = self.atom(cursor)?;
+        if !cursor.eat(TokenKind::Symbol(symbol::TRANSPOSE)) {
+            return Ok(value);
+        }
+        let value = Boxed::new(self.alloc, value)?;
+        Ok(Expr::Transposed { line, value })
+    }
+
+    /// A factor after its operator.
+    #[tactic(auto, unfolding(crate::specs::ReadExpressions::factor))]
+    fn factor(&self, cursor: &mut Cursor<'_>) -> Result<ProductFactor, Halt>
+        requires { Nests spec.expression self.now.depth (F.pre self.now.inner) (F.post self.now.inner) }
+        ensures { Reads (spec.factor (spec.expression self.now.depth) cursor.old) result cursor.new }
+    {
+        let line = cursor.line();
+        let entrywise = operator(cursor)?;
+        let value = self.post(cursor)?;
+        Ok(ProductFactor {
             line,
             entrywise,
             value,
-        };
-        Ok((factor, rest))
+        })
     }
 
-    /// The factors behind operators.
+    /// The factors after operators.
     #[tactic(auto, unfolding(crate::specs::ReadExpressions::factors))]
-    fn factors<'a>(
-        &self,
-        tokens: &'a [Token],
-    ) -> Result<(Items<ProductFactor>, &'a [Token]), ParseFault>
-        requires nests { Nests expressions.expression self.now.room (F.pre self.now.inner) (F.post self.now.inner) }
-        requires tokens { AreOf self.now.source.now tokens.now }
-        ensures read { Gives (λ x. (x.0, x.1.now)) result (expressions.factors self.now.source.now (expressions.expression self.now.source.now self.now.room) tokens.now) }
-        ensures sound { IfOk result (λ x. AreOf self.now.source.now x.1.now) }
+    fn factors(&self, cursor: &mut Cursor<'_>) -> Result<Items<ProductFactor>, Halt>
+        requires { Nests spec.expression self.now.depth (F.pre self.now.inner) (F.post self.now.inner) }
+        ensures { Reads (spec.factors (spec.expression self.now.depth) cursor.old) result cursor.new }
     {
         let operators = [
             TokenKind::Symbol(symbol::STAR),
             TokenKind::Symbol(symbol::ENTRYWISE),
         ];
-        let (all, rest) = each(
-            self.alloc,
-            self.source,
-            &operators,
-            |ts| self.factor(ts),
-            tokens,
-        )?;
-        Ok((all, rest))
+        let factor = |c: &mut Cursor<'_>| self.factor(c);
+        each(self.alloc, &operators, factor, cursor)
     }
 
     /// A product, or one factor.
     #[tactic(auto, unfolding(crate::specs::ReadExpressions::term))]
-    fn term<'a>(&self, tokens: &'a [Token]) -> Result<(Expr, &'a [Token]), ParseFault>
-        requires nests { Nests expressions.expression self.now.room (F.pre self.now.inner) (F.post self.now.inner) }
-        requires tokens { AreOf self.now.source.now tokens.now }
-        ensures read { Gives (λ x. (x.0, x.1.now)) result (expressions.term self.now.source.now (expressions.expression self.now.source.now self.now.room) tokens.now) }
-        ensures sound { IfOk result (λ x. AreOf self.now.source.now x.1.now) }
+    fn term(&self, cursor: &mut Cursor<'_>) -> Result<Expr, Halt>
+        requires { Nests spec.expression self.now.depth (F.pre self.now.inner) (F.post self.now.inner) }
+        ensures { Reads (spec.term (spec.expression self.now.depth) cursor.old) result cursor.new }
     {
-        let line = line_of(tokens);
-        let (value, rest) = self.post(tokens)?;
-        let (others, rest) = self.factors(rest)?;
-        let product = product_of(self.alloc, line, value, others)?;
-        Ok((product, rest))
+        let line = cursor.line();
+        let value = self.post(cursor)?;
+        let others = self.factors(cursor)?;
+        Ok(product_of(self.alloc, line, value, others)?)
     }
 
-    /// A term behind its sign.
+    /// A term after its sign.
     #[tactic(auto, unfolding(crate::specs::ReadExpressions::signed_term))]
-    fn signed_term<'a>(&self, tokens: &'a [Token]) -> Result<(SumTerm, &'a [Token]), ParseFault>
-        requires nests { Nests expressions.expression self.now.room (F.pre self.now.inner) (F.post self.now.inner) }
-        requires tokens { AreOf self.now.source.now tokens.now }
-        ensures read { Gives (λ x. (x.0, x.1.now)) result (expressions.signed_term self.now.source.now (expressions.expression self.now.source.now self.now.room) tokens.now) }
-        ensures sound { IfOk result (λ x. AreOf self.now.source.now x.1.now) }
+    fn signed_term(&self, cursor: &mut Cursor<'_>) -> Result<SumTerm, Halt>
+        requires { Nests spec.expression self.now.depth (F.pre self.now.inner) (F.post self.now.inner) }
+        ensures { Reads (spec.signed_term (spec.expression self.now.depth) cursor.old) result cursor.new }
     {
-        let line = line_of(tokens);
-        let (minus, rest) = sign(self.source, tokens)?;
-        let (value, rest) = self.term(rest)?;
-        Ok((SumTerm { line, minus, value }, rest))
+        let line = cursor.line();
+        let minus = sign(cursor)?;
+        let value = self.term(cursor)?;
+        Ok(SumTerm { line, minus, value })
     }
 
-    /// The terms behind signs.
+    /// The terms after signs.
     #[tactic(auto, unfolding(crate::specs::ReadExpressions::signed_terms))]
-    fn signed_terms<'a>(
-        &self,
-        tokens: &'a [Token],
-    ) -> Result<(Items<SumTerm>, &'a [Token]), ParseFault>
-        requires nests { Nests expressions.expression self.now.room (F.pre self.now.inner) (F.post self.now.inner) }
-        requires tokens { AreOf self.now.source.now tokens.now }
-        ensures read { Gives (λ x. (x.0, x.1.now)) result (expressions.signed_terms self.now.source.now (expressions.expression self.now.source.now self.now.room) tokens.now) }
-        ensures sound { IfOk result (λ x. AreOf self.now.source.now x.1.now) }
+    fn signed_terms(&self, cursor: &mut Cursor<'_>) -> Result<Items<SumTerm>, Halt>
+        requires { Nests spec.expression self.now.depth (F.pre self.now.inner) (F.post self.now.inner) }
+        ensures { Reads (spec.signed_terms (spec.expression self.now.depth) cursor.old) result cursor.new }
     {
         let signs = [
             TokenKind::Symbol(symbol::PLUS),
             TokenKind::Symbol(symbol::MINUS),
         ];
-        let (all, rest) = each(
-            self.alloc,
-            self.source,
-            &signs,
-            |ts| self.signed_term(ts),
-            tokens,
-        )?;
-        Ok((all, rest))
+        let term = |c: &mut Cursor<'_>| self.signed_term(c);
+        each(self.alloc, &signs, term, cursor)
     }
 
     /// A sum, or one term.
     #[tactic(auto, unfolding(crate::specs::ReadExpressions::sum))]
-    fn sum<'a>(&self, tokens: &'a [Token]) -> Result<(Expr, &'a [Token]), ParseFault>
-        requires nests { Nests expressions.expression self.now.room (F.pre self.now.inner) (F.post self.now.inner) }
-        requires tokens { AreOf self.now.source.now tokens.now }
-        ensures read { Gives (λ x. (x.0, x.1.now)) result (expressions.sum self.now.source.now (expressions.expression self.now.source.now self.now.room) tokens.now) }
-        ensures sound { IfOk result (λ x. AreOf self.now.source.now x.1.now) }
+    fn sum(&self, cursor: &mut Cursor<'_>) -> Result<Expr, Halt>
+        requires { Nests spec.expression self.now.depth (F.pre self.now.inner) (F.post self.now.inner) }
+        ensures { Reads (spec.sum (spec.expression self.now.depth) cursor.old) result cursor.new }
     {
-        let line = line_of(tokens);
-        let (minus, rest) = whether(self.source, TokenKind::Symbol(symbol::MINUS), tokens)?;
-        let (value, rest) = self.term(rest)?;
-        let (others, rest) = self.signed_terms(rest)?;
-        let sum = sum_of(self.alloc, line, minus, value, others)?;
-        Ok((sum, rest))
+        let line = cursor.line();
+        let minus = cursor.eat(TokenKind::Symbol(symbol::MINUS));
+        let value = self.term(cursor)?;
+        let others = self.signed_terms(cursor)?;
+        Ok(sum_of(self.alloc, line, minus, value, others)?)
     }
 }
 
 /// An expression in which others are nested less than so deep.
-pub fn expression<'s, 't>(
-    alloc: Global,
-    source: &'s [u8],
-    room: usize,
-    tokens: &'t [Token],
-) -> Result<(Expr, &'t [Token]), ParseFault>
-    requires { AreOf source.now tokens.now }
-    ensures read { Gives (λ x. (x.0, x.1.now)) result (expressions.expression source.now room tokens.now) }
-    ensures sound { IfOk result (λ x. AreOf source.now x.1.now) }
+pub fn expression(alloc: Global, cursor: &mut Cursor<'_>, depth: usize) -> Result<Expr, Halt>
+    ensures { Reads (spec.expression depth cursor.old) result cursor.new }
 {
-    if room == 0 {
-        return Err(ParseFault::Syntax);
+    if depth == 0 {
+        return Err(Halt::Syntax);
     }
-    let rules = Expressions {
+    let depth = depth - 1;
+    let inner = expression;
+    Expressions {
         alloc,
-        source,
-        room: room - 1,
-        inner: expression,
-    };
-    let (value, rest) = rules.sum(tokens)?;
-    Ok((value, rest))
+        depth,
+        inner,
+    }
+    .sum(cursor)
 }
 
 /// Arguments, where there are any, with expressions nested less than so deep.
-pub fn maybe_arguments<'a>(
+pub fn maybe_arguments(
     alloc: Global,
-    source: &[u8],
-    room: usize,
-    tokens: &'a [Token],
-) -> Result<(Items<Expr>, &'a [Token]), ParseFault>
-    requires { AreOf source.now tokens.now }
-    ensures read { Gives (λ x. (x.0, x.1.now)) result (expressions.maybe_arguments source.now (expressions.expression source.now room) tokens.now) }
-    ensures sound { IfOk result (λ x. AreOf source.now x.1.now) }
+    cursor: &mut Cursor<'_>,
+    depth: usize,
+) -> Result<Items<Expr>, Halt>
+    ensures { Reads (spec.maybe_arguments (spec.expression depth) cursor.old) result cursor.new }
 {
-    let rules = Expressions {
+    let inner = expression;
+    Expressions {
         alloc,
-        source,
-        room,
-        inner: expression,
-    };
-    let (all, rest) = rules.maybe_arguments(tokens)?;
-    Ok((all, rest))
+        depth,
+        inner,
+    }
+    .maybe_arguments(cursor)
 }

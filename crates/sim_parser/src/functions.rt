@@ -1,172 +1,115 @@
-//! Reads the statements of functions.
+//! Statements of functions.
 
-ghost use Rattle.std.specs.Prelude.{◌≡◌, IfOk, Some};
-ghost use Rattle.sim_parser.specs.ReadExpressions as expressions;
+ghost use Rattle.std.specs.Prelude.{◌≡◌, IfOk};
+ghost use Rattle.sim_parser.specs.ReadExpressions.{expression};
 ghost use Rattle.sim_parser.specs.ReadConditions as conditions;
-ghost use Rattle.sim_parser.specs.ReadFunctions as functions;
-ghost use Rattle.sim_parser.specs.Trees as trees;
-ghost use Rattle.sim_parser.specs.Read.{AreOf, Gives};
+ghost use Rattle.sim_parser.specs.ReadFunctions as spec;
+ghost use Rattle.sim_parser.specs.Read.{Reads};
 ghost use Rattle.sim_parser.specs.Nests.{Nests};
+ghost use Rattle.sim_parser.specs.Trees as trees;
 
+use crate::cursor::Cursor;
 use crate::expressions::expression;
-use crate::lists::{each, one_or_two, only};
-use crate::parts::{ParseFault, digits, line_of, name, skip, starts};
-use crate::statements::{assert_stmt, if_stmt};
-use sim_lexer::{Token, TokenKind, keyword, symbol};
-use sim_syntax::{Expr, Index, Name, Num, Place, Right, Stmt, Target};
+use crate::halt::Halt;
+use crate::lists::{one_or_two, only};
+use crate::statements::Statements;
+use sim_lexer::{TokenKind, keyword, symbol};
+use sim_syntax::{Expr, Index, Name, Place, Right, Stmt, Target};
 use sqlite_items::Items;
-use std::alloc::Global;
+use std::alloc::{AllocError, Global};
+
+/// What a statement of a function begins with.
+fn starts() -> [TokenKind; 5]
+    ensures { result ≡ spec.func_starts }
+{
+    [
+        TokenKind::Keyword(keyword::VAR),
+        TokenKind::Keyword(keyword::FOR),
+        TokenKind::Keyword(keyword::IF),
+        TokenKind::Keyword(keyword::ASSERT),
+        TokenKind::Name,
+    ]
+}
 
 /// A number as an index.
 #[tactic(auto, unfolding(crate::specs::ReadFunctions::literal_index))]
-fn literal_index<'a>(
-    alloc: Global,
-    source: &[u8],
-    tokens: &'a [Token],
-) -> Result<(Index, &'a [Token]), ParseFault>
-    requires { AreOf source.now tokens.now }
-    ensures read { Gives (λ x. (x.0, x.1.now)) result (functions.literal_index source.now tokens.now) }
-    ensures sound { IfOk result (λ x. AreOf source.now x.1.now) }
+fn literal_index(alloc: Global, cursor: &mut Cursor<'_>) -> Result<Index, Halt>
+    ensures { Reads (spec.literal_index cursor.old) result cursor.new }
 {
-    let line = line_of(tokens);
-    let (number, rest) = digits(alloc, source, tokens)?;
-    Ok((Index::Literal { line, number }, rest))
+    let line = cursor.line();
+    let number = cursor.number(alloc)?;
+    Ok(Index::Literal { line, number })
 }
 
 /// A name as an index.
 #[tactic(auto, unfolding(crate::specs::ReadFunctions::named_index))]
-fn named_index<'a>(
-    alloc: Global,
-    source: &[u8],
-    tokens: &'a [Token],
-) -> Result<(Index, &'a [Token]), ParseFault>
-    requires { AreOf source.now tokens.now }
-    ensures read { Gives (λ x. (x.0, x.1.now)) result (functions.named_index source.now tokens.now) }
-    ensures sound { IfOk result (λ x. AreOf source.now x.1.now) }
+fn named_index(alloc: Global, cursor: &mut Cursor<'_>) -> Result<Index, Halt>
+    ensures { Reads (spec.named_index cursor.old) result cursor.new }
 {
-    let line = line_of(tokens);
-    let (name, rest) = name(alloc, source, tokens)?;
-    Ok((Index::Named { line, name }, rest))
+    let line = cursor.line();
+    let name = cursor.name(alloc)?;
+    Ok(Index::Named { line, name })
 }
 
-/// The number of an endpoint.
+/// The position of an endpoint.
 #[tactic(auto, unfolding(crate::specs::ReadFunctions::index))]
-fn index<'a>(
-    alloc: Global,
-    source: &[u8],
-    tokens: &'a [Token],
-) -> Result<(Index, &'a [Token]), ParseFault>
-    requires { AreOf source.now tokens.now }
-    ensures read { Gives (λ x. (x.0, x.1.now)) result (functions.index source.now tokens.now) }
-    ensures sound { IfOk result (λ x. AreOf source.now x.1.now) }
+fn index(alloc: Global, cursor: &mut Cursor<'_>) -> Result<Index, Halt>
+    ensures { Reads (spec.index cursor.old) result cursor.new }
 {
-    let (index, rest) = if starts(&[TokenKind::Number], tokens) {
-        literal_index(alloc, source, tokens)?
+    if cursor.is_at(TokenKind::Number) {
+        literal_index(alloc, cursor)
     } else {
-        named_index(alloc, source, tokens)?
-    };
-    Ok((index, rest))
+        named_index(alloc, cursor)
+    }
 }
 
-/// The number of an endpoint in parentheses, where there is one.
+/// The position of an endpoint in parentheses, where there is one.
 #[tactic(auto, unfolding(crate::specs::ReadFunctions::maybe_index, crate::specs::Read::skip))]
-fn maybe_index<'a>(
-    alloc: Global,
-    source: &[u8],
-    tokens: &'a [Token],
-) -> Result<(Option<Index>, &'a [Token]), ParseFault>
-    requires { AreOf source.now tokens.now }
-    ensures read { Gives (λ x. (x.0, x.1.now)) result (functions.maybe_index source.now tokens.now) }
-    ensures sound { IfOk result (λ x. AreOf source.now x.1.now) }
+fn maybe_index(alloc: Global, cursor: &mut Cursor<'_>) -> Result<Option<Index>, Halt>
+    ensures { Reads (spec.maybe_index cursor.old) result cursor.new }
 {
-    if starts(&[TokenKind::Symbol(symbol::OPEN_PAREN)], tokens) {
-        let rest = skip(source, &[TokenKind::Symbol(symbol::OPEN_PAREN)], tokens)?;
-        let (index, rest) = index(alloc, source, rest)?;
-        let rest = skip(source, &[TokenKind::Symbol(symbol::CLOSE_PAREN)], rest)?;
-        return Ok((Some(index), rest));
+    if !cursor.is_at(TokenKind::Symbol(symbol::OPEN_PAREN)) {
+        return Ok(None);
     }
-    Ok((None, tokens))
+    cursor.skip(&[TokenKind::Symbol(symbol::OPEN_PAREN)])?;
+    let index = index(alloc, cursor)?;
+    cursor.skip(&[TokenKind::Symbol(symbol::CLOSE_PAREN)])?;
+    Ok(Some(index))
 }
 
 /// A place.
 #[tactic(auto, unfolding(crate::specs::ReadFunctions::place))]
-fn place<'a>(
-    alloc: Global,
-    source: &[u8],
-    tokens: &'a [Token],
-) -> Result<(Place, &'a [Token]), ParseFault>
-    requires { AreOf source.now tokens.now }
-    ensures read { Gives (λ x. (x.0, x.1.now)) result (functions.place source.now tokens.now) }
-    ensures sound { IfOk result (λ x. AreOf source.now x.1.now) }
+fn place(alloc: Global, cursor: &mut Cursor<'_>) -> Result<Place, Halt>
+    ensures { Reads (spec.place cursor.old) result cursor.new }
 {
-    let line = line_of(tokens);
-    let (name, rest) = name(alloc, source, tokens)?;
-    let (index, rest) = maybe_index(alloc, source, rest)?;
-    Ok((Place { line, name, index }, rest))
+    let line = cursor.line();
+    let name = cursor.name(alloc)?;
+    let index = maybe_index(alloc, cursor)?;
+    Ok(Place { line, name, index })
 }
 
-/// One place or two in parentheses.
-#[tactic(auto, unfolding(crate::specs::ReadFunctions::places))]
-fn places<'a>(
-    alloc: Global,
-    source: &[u8],
-    tokens: &'a [Token],
-) -> Result<(Items<Place>, &'a [Token]), ParseFault>
-    requires { AreOf source.now tokens.now }
-    ensures read { Gives (λ x. (x.0, x.1.now)) result (functions.places source.now tokens.now) }
-    ensures sound { IfOk result (λ x. AreOf source.now x.1.now) }
+/// One place, or two with a comma between.
+#[tactic(auto, unfolding(crate::specs::ReadFunctions::one_or_two_places))]
+fn one_or_two_places(alloc: Global, cursor: &mut Cursor<'_>) -> Result<Items<Place>, Halt>
+    ensures { Reads (spec.one_or_two_places cursor.old) result cursor.new }
 {
-    let rest = skip(source, &[TokenKind::Symbol(symbol::OPEN_PAREN)], tokens)?;
-    let (all, rest) = one_or_two(
-        alloc,
-        source,
-        TokenKind::Symbol(symbol::COMMA),
-        |ts| place(alloc, source, ts),
-        rest,
-    )?;
-    let rest = skip(source, &[TokenKind::Symbol(symbol::CLOSE_PAREN)], rest)?;
-    Ok((all, rest))
+    let comma = TokenKind::Symbol(symbol::COMMA);
+    let part = |c: &mut Cursor<'_>| place(alloc, c);
+    one_or_two(alloc, comma, part, cursor)
 }
 
-/// Places, where there are any.
-#[tactic(auto, unfolding(crate::specs::ReadFunctions::maybe_places, crate::specs::Read::skip))]
-fn maybe_places<'a>(
-    alloc: Global,
-    source: &[u8],
-    tokens: &'a [Token],
-) -> Result<(Option<Items<Place>>, &'a [Token]), ParseFault>
-    requires { AreOf source.now tokens.now }
-    ensures read { Gives (λ x. (x.0, x.1.now)) result (functions.maybe_places source.now tokens.now) }
-    ensures sound { IfOk result (λ x. AreOf source.now x.1.now) }
+/// Places in parentheses, where there are any.
+#[tactic(auto, unfolding(crate::specs::ReadFunctions::maybe_places, crate::specs::ReadFunctions::places, crate::specs::Read::skip))]
+fn maybe_places(alloc: Global, cursor: &mut Cursor<'_>) -> Result<Option<Items<Place>>, Halt>
+    ensures { Reads (spec.maybe_places cursor.old) result cursor.new }
 {
-    if starts(&[TokenKind::Symbol(symbol::OPEN_PAREN)], tokens) {
-        let (all, rest) = places(alloc, source, tokens)?;
-        return Ok((Some(all), rest));
+    if !cursor.is_at(TokenKind::Symbol(symbol::OPEN_PAREN)) {
+        return Ok(None);
     }
-    Ok((None, tokens))
-}
-
-/// A new variable.
-#[tactic(auto, unfolding(crate::specs::ReadFunctions::local_var))]
-fn local_var<'a>(
-    alloc: Global,
-    source: &[u8],
-    room: usize,
-    tokens: &'a [Token],
-) -> Result<(Stmt, &'a [Token]), ParseFault>
-    requires { AreOf source.now tokens.now }
-    ensures read { Gives (λ x. (x.0, x.1.now)) result (functions.local_var source.now (expressions.expression source.now room) tokens.now) }
-    ensures sound { IfOk result (λ x. AreOf source.now x.1.now) }
-{
-    let line = line_of(tokens);
-    let rest = skip(source, &[TokenKind::Keyword(keyword::VAR)], tokens)?;
-    let (name, rest) = name(alloc, source, rest)?;
-    let rest = skip(source, &[TokenKind::Symbol(symbol::ASSIGN)], rest)?;
-    let (value, rest) = expression(alloc, source, room, rest)?;
-    let rest = skip(source, &[TokenKind::Symbol(symbol::SEMICOLON)], rest)?;
-    let names = only(alloc, name)?;
-    let right = Right::Value(value);
-    Ok((Stmt::Var { line, names, right }, rest))
+    cursor.skip(&[TokenKind::Symbol(symbol::OPEN_PAREN)])?;
+    let all = one_or_two_places(alloc, cursor)?;
+    cursor.skip(&[TokenKind::Symbol(symbol::CLOSE_PAREN)])?;
+    Ok(Some(all))
 }
 
 /// A contribution where there are places, and else an assignment.
@@ -176,8 +119,8 @@ fn named_stmt_of(
     name: Name,
     places: Option<Items<Place>>,
     value: Expr,
-) -> Result<Stmt, ParseFault>
-    ensures { Gives (λ stmt. stmt) result (Some (trees.named_stmt_of line (name, (places, value)))) }
+) -> Result<Stmt, AllocError>
+    ensures { IfOk result (λ stmt. stmt ≡ trees.named_stmt_of line (name, (places, value))) }
 {
     match places {
         Some(places) => Ok(Stmt::Write {
@@ -199,201 +142,125 @@ fn named_stmt_of(
     }
 }
 
-/// A contribution, or an assignment.
-#[tactic(auto, unfolding(crate::specs::ReadFunctions::named_stmt))]
-fn named_stmt<'a>(
-    alloc: Global,
-    source: &[u8],
-    room: usize,
-    tokens: &'a [Token],
-) -> Result<(Stmt, &'a [Token]), ParseFault>
-    requires { AreOf source.now tokens.now }
-    ensures read { Gives (λ x. (x.0, x.1.now)) result (functions.named_stmt source.now (expressions.expression source.now room) tokens.now) }
-    ensures sound { IfOk result (λ x. AreOf source.now x.1.now) }
-{
-    let line = line_of(tokens);
-    let (name, rest) = name(alloc, source, tokens)?;
-    let (places, rest) = maybe_places(alloc, source, rest)?;
-    let rest = skip(source, &[TokenKind::Symbol(symbol::ASSIGN)], rest)?;
-    let (value, rest) = expression(alloc, source, room, rest)?;
-    let rest = skip(source, &[TokenKind::Symbol(symbol::SEMICOLON)], rest)?;
-    let stmt = named_stmt_of(alloc, line, name, places, value)?;
-    Ok((stmt, rest))
-}
-
-/// The rules of a function's statements, over a reader of the statements inside.
-#[derive(Clone, Copy)]
-struct FuncStatements<'a, F> {
-    alloc: Global,
-    /// The text of the program.
-    source: &'a [u8],
-    /// How deep statements and expressions may be nested inside.
-    room: usize,
-    inner: F,
-}
-
-impl<
-    F: for<'s, 't> Fn(
-        Global,
-        &'s [u8],
-        usize,
-        &'t [Token],
-    ) -> Result<(Stmt, &'t [Token]), ParseFault>,
-> FuncStatements<'_, F> {
-    /// A statement inside.
-    fn inner<'a>(&self, tokens: &'a [Token]) -> Result<(Stmt, &'a [Token]), ParseFault>
-        requires nests { Nests functions.func_statement self.now.room (F.pre self.now.inner) (F.post self.now.inner) }
-        requires tokens { AreOf self.now.source.now tokens.now }
-        ensures read { Gives (λ x. (x.0, x.1.now)) result (functions.func_statement self.now.source.now self.now.room tokens.now) }
-        ensures sound { IfOk result (λ x. AreOf self.now.source.now x.1.now) }
+impl<F: Fn(Global, &mut Cursor<'_>, usize) -> Result<Stmt, Halt>> Statements<F> {
+    /// A new variable.
+    #[tactic(auto, unfolding(crate::specs::ReadFunctions::local_var))]
+    fn local_var(&self, cursor: &mut Cursor<'_>) -> Result<Stmt, Halt>
+        ensures { Reads (spec.local_var (expression self.now.depth) cursor.old) result cursor.new }
     {
-        (self.inner)(self.alloc, self.source, self.room, tokens)
+        let line = cursor.line();
+        cursor.skip(&[TokenKind::Keyword(keyword::VAR)])?;
+        let name = cursor.name(self.alloc)?;
+        cursor.skip(&[TokenKind::Symbol(symbol::ASSIGN)])?;
+        let value = expression(self.alloc, cursor, self.depth)?;
+        cursor.skip(&[TokenKind::Symbol(symbol::SEMICOLON)])?;
+        let names = only(self.alloc, name)?;
+        let right = Right::Value(value);
+        Ok(Stmt::Var { line, names, right })
     }
 
-    /// Statements.
+    /// A contribution, or an assignment.
+    #[tactic(auto, unfolding(crate::specs::ReadFunctions::named_stmt))]
+    fn named_stmt(&self, cursor: &mut Cursor<'_>) -> Result<Stmt, Halt>
+        ensures { Reads (spec.named_stmt (expression self.now.depth) cursor.old) result cursor.new }
+    {
+        let line = cursor.line();
+        let name = cursor.name(self.alloc)?;
+        let places = maybe_places(self.alloc, cursor)?;
+        cursor.skip(&[TokenKind::Symbol(symbol::ASSIGN)])?;
+        let value = expression(self.alloc, cursor, self.depth)?;
+        cursor.skip(&[TokenKind::Symbol(symbol::SEMICOLON)])?;
+        Ok(named_stmt_of(self.alloc, line, name, places, value)?)
+    }
+
+    /// The statements inside.
     #[tactic(auto, unfolding(crate::specs::ReadFunctions::func_body))]
-    fn body<'a>(&self, tokens: &'a [Token]) -> Result<(Items<Stmt>, &'a [Token]), ParseFault>
-        requires nests { Nests functions.func_statement self.now.room (F.pre self.now.inner) (F.post self.now.inner) }
-        requires tokens { AreOf self.now.source.now tokens.now }
-        ensures read { Gives (λ x. (x.0, x.1.now)) result (functions.func_body self.now.source.now self.now.room tokens.now) }
-        ensures sound { IfOk result (λ x. AreOf self.now.source.now x.1.now) }
+    fn func_body(&self, cursor: &mut Cursor<'_>) -> Result<Items<Stmt>, Halt>
+        requires { Nests spec.func_statement self.now.depth (F.pre self.now.inner) (F.post self.now.inner) }
+        ensures { Reads (spec.func_body self.now.depth cursor.old) result cursor.new }
     {
-        let kinds = [
-            TokenKind::Keyword(keyword::VAR),
-            TokenKind::Keyword(keyword::FOR),
-            TokenKind::Keyword(keyword::IF),
-            TokenKind::Keyword(keyword::ASSERT),
-            TokenKind::Name,
-        ];
-        let (all, rest) = each(self.alloc, self.source, &kinds, |ts| self.inner(ts), tokens)?;
-        Ok((all, rest))
-    }
-
-    /// The bounds and the body of a loop.
-    #[tactic(auto, unfolding(crate::specs::ReadFunctions::const_range))]
-    fn const_range<'a>(
-        &self,
-        tokens: &'a [Token],
-    ) -> Result<((Num, (Num, Items<Stmt>)), &'a [Token]), ParseFault>
-        requires nests { Nests functions.func_statement self.now.room (F.pre self.now.inner) (F.post self.now.inner) }
-        requires tokens { AreOf self.now.source.now tokens.now }
-        ensures read { Gives (λ x. (x.0, x.1.now)) result (functions.const_range self.now.source.now (functions.func_body self.now.source.now self.now.room) tokens.now) }
-        ensures sound { IfOk result (λ x. AreOf self.now.source.now x.1.now) }
-    {
-        let rest = skip(self.source, &[TokenKind::Keyword(keyword::IN)], tokens)?;
-        let (from, rest) = digits(self.alloc, self.source, rest)?;
-        let rest = skip(self.source, &[TokenKind::Symbol(symbol::COLON)], rest)?;
-        let (to, rest) = digits(self.alloc, self.source, rest)?;
-        let (body, rest) = self.body(rest)?;
-        Ok(((from, (to, body)), rest))
+        self.body(&starts(), cursor)
     }
 
     /// A loop.
     #[tactic(auto, unfolding(crate::specs::ReadFunctions::const_for))]
-    fn const_for<'a>(&self, tokens: &'a [Token]) -> Result<(Stmt, &'a [Token]), ParseFault>
-        requires nests { Nests functions.func_statement self.now.room (F.pre self.now.inner) (F.post self.now.inner) }
-        requires tokens { AreOf self.now.source.now tokens.now }
-        ensures read { Gives (λ x. (x.0, x.1.now)) result (functions.const_for self.now.source.now (functions.func_body self.now.source.now self.now.room) tokens.now) }
-        ensures sound { IfOk result (λ x. AreOf self.now.source.now x.1.now) }
+    fn const_for(&self, cursor: &mut Cursor<'_>) -> Result<Stmt, Halt>
+        requires { Nests spec.func_statement self.now.depth (F.pre self.now.inner) (F.post self.now.inner) }
+        ensures { Reads (spec.const_for (spec.func_body self.now.depth) cursor.old) result cursor.new }
     {
-        let line = line_of(tokens);
-        let rest = skip(self.source, &[TokenKind::Keyword(keyword::FOR)], tokens)?;
-        let (name, rest) = name(self.alloc, self.source, rest)?;
-        let ((from, (to, body)), rest) = self.const_range(rest)?;
-        let rest = skip(self.source, &[TokenKind::Keyword(keyword::END)], rest)?;
-        let stmt = Stmt::ConstFor {
+        let line = cursor.line();
+        cursor.skip(&[TokenKind::Keyword(keyword::FOR)])?;
+        let name = cursor.name(self.alloc)?;
+        cursor.skip(&[TokenKind::Keyword(keyword::IN)])?;
+        let from = cursor.number(self.alloc)?;
+        cursor.skip(&[TokenKind::Symbol(symbol::COLON)])?;
+        let to = cursor.number(self.alloc)?;
+        let body = self.func_body(cursor)?;
+        cursor.skip(&[TokenKind::Keyword(keyword::END)])?;
+        Ok(Stmt::ConstFor {
             line,
             name,
             from,
             to,
             body,
-        };
-        Ok((stmt, rest))
+        })
     }
 
     /// A choice between statements.
-    #[tactic(auto)]
-    fn choice<'a>(&self, tokens: &'a [Token]) -> Result<(Stmt, &'a [Token]), ParseFault>
-        requires nests { Nests functions.func_statement self.now.room (F.pre self.now.inner) (F.post self.now.inner) }
-        requires tokens { AreOf self.now.source.now tokens.now }
-        ensures read { Gives (λ x. (x.0, x.1.now)) result (conditions.if_stmt self.now.source.now (expressions.expression self.now.source.now self.now.room) (functions.func_body self.now.source.now self.now.room) tokens.now) }
-        ensures sound { IfOk result (λ x. AreOf self.now.source.now x.1.now) }
+    #[tactic(auto, unfolding(crate::specs::ReadFunctions::func_body))]
+    fn func_if(&self, cursor: &mut Cursor<'_>) -> Result<Stmt, Halt>
+        requires { Nests spec.func_statement self.now.depth (F.pre self.now.inner) (F.post self.now.inner) }
+        ensures { Reads (conditions.if_stmt (expression self.now.depth) (spec.func_body self.now.depth) cursor.old) result cursor.new }
     {
-        let (stmt, rest) = if_stmt(
-            self.alloc,
-            self.source,
-            self.room,
-            |ts| self.body(ts),
-            tokens,
-        )?;
-        Ok((stmt, rest))
+        self.if_stmt(&starts(), cursor)
     }
 
     /// A statement.
     #[tactic(auto, unfolding(crate::specs::ReadFunctions::func_stmt))]
-    fn func_stmt<'a>(&self, tokens: &'a [Token]) -> Result<(Stmt, &'a [Token]), ParseFault>
-        requires nests { Nests functions.func_statement self.now.room (F.pre self.now.inner) (F.post self.now.inner) }
-        requires tokens { AreOf self.now.source.now tokens.now }
-        ensures read { Gives (λ x. (x.0, x.1.now)) result (functions.func_stmt self.now.source.now (expressions.expression self.now.source.now self.now.room) (functions.func_body self.now.source.now self.now.room) tokens.now) }
-        ensures sound { IfOk result (λ x. AreOf self.now.source.now x.1.now) }
+    fn func_stmt(&self, cursor: &mut Cursor<'_>) -> Result<Stmt, Halt>
+        requires { Nests spec.func_statement self.now.depth (F.pre self.now.inner) (F.post self.now.inner) }
+        ensures { Reads (spec.func_stmt (expression self.now.depth) (spec.func_body self.now.depth) cursor.old) result cursor.new }
     {
-        let (stmt, rest) = if starts(&[TokenKind::Keyword(keyword::VAR)], tokens) {
-            local_var(self.alloc, self.source, self.room, tokens)?
-        } else if starts(&[TokenKind::Keyword(keyword::FOR)], tokens) {
-            self.const_for(tokens)?
-        } else if starts(&[TokenKind::Keyword(keyword::IF)], tokens) {
-            self.choice(tokens)?
-        } else if starts(&[TokenKind::Keyword(keyword::ASSERT)], tokens) {
-            assert_stmt(self.alloc, self.source, self.room, tokens)?
+        if cursor.is_at(TokenKind::Keyword(keyword::VAR)) {
+            self.local_var(cursor)
+        } else if cursor.is_at(TokenKind::Keyword(keyword::FOR)) {
+            self.const_for(cursor)
+        } else if cursor.is_at(TokenKind::Keyword(keyword::IF)) {
+            self.func_if(cursor)
+        } else if cursor.is_at(TokenKind::Keyword(keyword::ASSERT)) {
+            self.assert_stmt(cursor)
         } else {
-            named_stmt(self.alloc, self.source, self.room, tokens)?
-        };
-        Ok((stmt, rest))
+            self.named_stmt(cursor)
+        }
     }
 }
 
 /// A statement in which others, and expressions, are nested less than so deep.
-fn func_statement<'s, 't>(
-    alloc: Global,
-    source: &'s [u8],
-    room: usize,
-    tokens: &'t [Token],
-) -> Result<(Stmt, &'t [Token]), ParseFault>
-    requires { AreOf source.now tokens.now }
-    ensures read { Gives (λ x. (x.0, x.1.now)) result (functions.func_statement source.now room tokens.now) }
-    ensures sound { IfOk result (λ x. AreOf source.now x.1.now) }
+fn func_statement(alloc: Global, cursor: &mut Cursor<'_>, depth: usize) -> Result<Stmt, Halt>
+    ensures { Reads (spec.func_statement depth cursor.old) result cursor.new }
 {
-    if room == 0 {
-        return Err(ParseFault::Syntax);
+    if depth == 0 {
+        return Err(Halt::Syntax);
     }
-    let rules = FuncStatements {
+    let depth = depth - 1;
+    let inner = func_statement;
+    Statements {
         alloc,
-        source,
-        room: room - 1,
-        inner: func_statement,
-    };
-    let (stmt, rest) = rules.func_stmt(tokens)?;
-    Ok((stmt, rest))
+        depth,
+        inner,
+    }
+    .func_stmt(cursor)
 }
 
 /// Statements in which others, and expressions, are nested less than so deep.
-#[tactic(auto, unfolding(crate::specs::ReadFunctions::func_body))]
-pub fn func_body<'a>(
-    alloc: Global,
-    source: &[u8],
-    room: usize,
-    tokens: &'a [Token],
-) -> Result<(Items<Stmt>, &'a [Token]), ParseFault>
-    requires { AreOf source.now tokens.now }
-    ensures read { Gives (λ x. (x.0, x.1.now)) result (functions.func_body source.now room tokens.now) }
-    ensures sound { IfOk result (λ x. AreOf source.now x.1.now) }
+pub fn func_body(alloc: Global, cursor: &mut Cursor<'_>, depth: usize) -> Result<Items<Stmt>, Halt>
+    ensures { Reads (spec.func_body depth cursor.old) result cursor.new }
 {
-    let rules = FuncStatements {
+    let inner = func_statement;
+    Statements {
         alloc,
-        source,
-        room,
-        inner: func_statement,
-    };
-    let (all, rest) = rules.body(tokens)?;
-    Ok((all, rest))
+        depth,
+        inner,
+    }
+    .func_body(cursor)
 }

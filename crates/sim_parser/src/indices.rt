@@ -1,288 +1,172 @@
-//! Reads index expressions.
+//! Index expressions.
 
-ghost use Rattle.std.specs.Prelude.{◌≡◌, IfOk};
-ghost use Rattle.sim_parser.specs.ReadIndices as indices;
-ghost use Rattle.sim_parser.specs.Read.{AreOf, Gives};
+ghost use Rattle.sim_parser.specs.ReadIndices as spec;
+ghost use Rattle.sim_parser.specs.Read.{Reads};
 
+use crate::cursor::Cursor;
 use crate::expressions::sign;
-use crate::lists::{each, in_front, one_or_two, separated};
-use crate::parts::{ParseFault, digits, line_of, name, skip, starts, whether};
-use sim_lexer::{Token, TokenKind, keyword, symbol};
+use crate::halt::Halt;
+use crate::lists::{each, one_or_two, separated, with_first};
+use sim_lexer::{TokenKind, keyword, symbol};
 use sim_syntax::{IxAtom, IxTerm, Name, Right};
 use sqlite_items::Items;
 use std::alloc::Global;
 
-/// One name or two.
+/// One name, or two with a comma between.
 #[tactic(auto, unfolding(crate::specs::ReadIndices::names))]
-fn names<'a>(
-    alloc: Global,
-    source: &[u8],
-    tokens: &'a [Token],
-) -> Result<(Items<Name>, &'a [Token]), ParseFault>
-    requires { AreOf source.now tokens.now }
-    ensures read { Gives (λ x. (x.0, x.1.now)) result (indices.names source.now tokens.now) }
-    ensures sound { IfOk result (λ x. AreOf source.now x.1.now) }
+fn names(alloc: Global, cursor: &mut Cursor<'_>) -> Result<Items<Name>, Halt>
+    ensures { Reads (spec.names cursor.old) result cursor.new }
 {
-    let (all, rest) = one_or_two(
-        alloc,
-        source,
-        TokenKind::Symbol(symbol::COMMA),
-        |ts| name(alloc, source, ts),
-        tokens,
-    )?;
-    Ok((all, rest))
+    let comma = TokenKind::Symbol(symbol::COMMA);
+    let name = |c: &mut Cursor<'_>| c.name(alloc);
+    one_or_two(alloc, comma, name, cursor)
 }
 
-/// Indices in parentheses.
-#[tactic(auto, unfolding(crate::specs::ReadIndices::indices))]
-fn indices<'a>(
-    alloc: Global,
-    source: &[u8],
-    tokens: &'a [Token],
-) -> Result<(Items<Name>, &'a [Token]), ParseFault>
-    requires { AreOf source.now tokens.now }
-    ensures read { Gives (λ x. (x.0, x.1.now)) result (indices.indices source.now tokens.now) }
-    ensures sound { IfOk result (λ x. AreOf source.now x.1.now) }
+/// Indices in parentheses, where there are any.
+#[tactic(auto, unfolding(crate::specs::ReadIndices::maybe_indices, crate::specs::ReadIndices::indices, crate::specs::Read::skip))]
+fn maybe_indices(alloc: Global, cursor: &mut Cursor<'_>) -> Result<Items<Name>, Halt>
+    ensures { Reads (spec.maybe_indices cursor.old) result cursor.new }
 {
-    let rest = skip(source, &[TokenKind::Symbol(symbol::OPEN_PAREN)], tokens)?;
-    let (all, rest) = names(alloc, source, rest)?;
-    let rest = skip(source, &[TokenKind::Symbol(symbol::CLOSE_PAREN)], rest)?;
-    Ok((all, rest))
-}
-
-/// Indices, where there are any.
-#[tactic(auto, unfolding(crate::specs::ReadIndices::maybe_indices, crate::specs::Read::skip))]
-fn maybe_indices<'a>(
-    alloc: Global,
-    source: &[u8],
-    tokens: &'a [Token],
-) -> Result<(Items<Name>, &'a [Token]), ParseFault>
-    requires { AreOf source.now tokens.now }
-    ensures read { Gives (λ x. (x.0, x.1.now)) result (indices.maybe_indices source.now tokens.now) }
-    ensures sound { IfOk result (λ x. AreOf source.now x.1.now) }
-{
-    if starts(&[TokenKind::Symbol(symbol::OPEN_PAREN)], tokens) {
-        let (all, rest) = indices(alloc, source, tokens)?;
-        return Ok((all, rest));
+    if !cursor.is_at(TokenKind::Symbol(symbol::OPEN_PAREN)) {
+        return Ok(Items::new(alloc));
     }
-    Ok((Items::new(alloc), tokens))
+    cursor.skip(&[TokenKind::Symbol(symbol::OPEN_PAREN)])?;
+    let all = names(alloc, cursor)?;
+    cursor.skip(&[TokenKind::Symbol(symbol::CLOSE_PAREN)])?;
+    Ok(all)
 }
 
-/// A field's name behind a point, where there is one.
+/// A field's name after a point, where there is one.
 #[tactic(auto, unfolding(crate::specs::ReadIndices::maybe_field, crate::specs::Read::skip))]
-pub fn maybe_field<'a>(
-    alloc: Global,
-    source: &[u8],
-    tokens: &'a [Token],
-) -> Result<(Option<Name>, &'a [Token]), ParseFault>
-    requires { AreOf source.now tokens.now }
-    ensures read { Gives (λ x. (x.0, x.1.now)) result (indices.maybe_field source.now tokens.now) }
-    ensures sound { IfOk result (λ x. AreOf source.now x.1.now) }
+pub fn maybe_field(alloc: Global, cursor: &mut Cursor<'_>) -> Result<Option<Name>, Halt>
+    ensures { Reads (spec.maybe_field cursor.old) result cursor.new }
 {
-    if starts(&[TokenKind::Symbol(symbol::POINT)], tokens) {
-        let rest = skip(source, &[TokenKind::Symbol(symbol::POINT)], tokens)?;
-        let (field, rest) = name(alloc, source, rest)?;
-        return Ok((Some(field), rest));
+    if !cursor.is_at(TokenKind::Symbol(symbol::POINT)) {
+        return Ok(None);
     }
-    Ok((None, tokens))
+    cursor.skip(&[TokenKind::Symbol(symbol::POINT)])?;
+    let field = cursor.name(alloc)?;
+    Ok(Some(field))
 }
 
-/// A number.
-#[tactic(auto, unfolding(crate::specs::ReadIndices::ix_number))]
-fn ix_number<'a>(
-    alloc: Global,
-    source: &[u8],
-    tokens: &'a [Token],
-) -> Result<(IxAtom, &'a [Token]), ParseFault>
-    requires { AreOf source.now tokens.now }
-    ensures read { Gives (λ x. (x.0, x.1.now)) result (indices.ix_number source.now tokens.now) }
-    ensures sound { IfOk result (λ x. AreOf source.now x.1.now) }
-{
-    let line = line_of(tokens);
-    let (number, rest) = digits(alloc, source, tokens)?;
-    Ok((IxAtom::Number { line, number }, rest))
-}
-
-/// A name with its field and its indices.
+/// A name with its indices.
 #[tactic(auto, unfolding(crate::specs::ReadIndices::ix_named))]
-fn ix_named<'a>(
-    alloc: Global,
-    source: &[u8],
-    tokens: &'a [Token],
-) -> Result<(IxAtom, &'a [Token]), ParseFault>
-    requires { AreOf source.now tokens.now }
-    ensures read { Gives (λ x. (x.0, x.1.now)) result (indices.ix_named source.now tokens.now) }
-    ensures sound { IfOk result (λ x. AreOf source.now x.1.now) }
+fn ix_named(alloc: Global, cursor: &mut Cursor<'_>) -> Result<IxAtom, Halt>
+    ensures { Reads (spec.ix_named cursor.old) result cursor.new }
 {
-    let line = line_of(tokens);
-    let (name, rest) = name(alloc, source, tokens)?;
-    let (field, rest) = maybe_field(alloc, source, rest)?;
-    let (indices, rest) = maybe_indices(alloc, source, rest)?;
-    let named = IxAtom::Named {
+    let line = cursor.line();
+    let name = cursor.name(alloc)?;
+    let field = maybe_field(alloc, cursor)?;
+    let indices = maybe_indices(alloc, cursor)?;
+    Ok(IxAtom::Named {
         line,
         name,
         field,
         indices,
-    };
-    Ok((named, rest))
+    })
 }
 
-/// A factor.
+/// A number.
+#[tactic(auto, unfolding(crate::specs::ReadIndices::ix_number))]
+fn ix_number(alloc: Global, cursor: &mut Cursor<'_>) -> Result<IxAtom, Halt>
+    ensures { Reads (spec.ix_number cursor.old) result cursor.new }
+{
+    let line = cursor.line();
+    let number = cursor.number(alloc)?;
+    Ok(IxAtom::Number { line, number })
+}
+
+/// A factor of an index term.
 #[tactic(auto, unfolding(crate::specs::ReadIndices::ix_atom))]
-fn ix_atom<'a>(
-    alloc: Global,
-    source: &[u8],
-    tokens: &'a [Token],
-) -> Result<(IxAtom, &'a [Token]), ParseFault>
-    requires { AreOf source.now tokens.now }
-    ensures read { Gives (λ x. (x.0, x.1.now)) result (indices.ix_atom source.now tokens.now) }
-    ensures sound { IfOk result (λ x. AreOf source.now x.1.now) }
+fn ix_atom(alloc: Global, cursor: &mut Cursor<'_>) -> Result<IxAtom, Halt>
+    ensures { Reads (spec.ix_atom cursor.old) result cursor.new }
 {
-    let (atom, rest) = if starts(&[TokenKind::Number], tokens) {
-        ix_number(alloc, source, tokens)?
+    if cursor.is_at(TokenKind::Number) {
+        ix_number(alloc, cursor)
     } else {
-        ix_named(alloc, source, tokens)?
-    };
-    Ok((atom, rest))
+        ix_named(alloc, cursor)
+    }
 }
 
-/// Factors with `*` between.
+/// The factors of an index term.
 #[tactic(auto, unfolding(crate::specs::ReadIndices::ix_product))]
-fn ix_product<'a>(
-    alloc: Global,
-    source: &[u8],
-    tokens: &'a [Token],
-) -> Result<(Items<IxAtom>, &'a [Token]), ParseFault>
-    requires { AreOf source.now tokens.now }
-    ensures read { Gives (λ x. (x.0, x.1.now)) result (indices.ix_product source.now tokens.now) }
-    ensures sound { IfOk result (λ x. AreOf source.now x.1.now) }
+fn ix_product(alloc: Global, cursor: &mut Cursor<'_>) -> Result<Items<IxAtom>, Halt>
+    ensures { Reads (spec.ix_product cursor.old) result cursor.new }
 {
-    let (all, rest) = separated(
-        alloc,
-        source,
-        TokenKind::Symbol(symbol::STAR),
-        |ts| ix_atom(alloc, source, ts),
-        tokens,
-    )?;
-    Ok((all, rest))
+    let star = TokenKind::Symbol(symbol::STAR);
+    let atom = |c: &mut Cursor<'_>| ix_atom(alloc, c);
+    separated(alloc, star, atom, cursor)
 }
 
-/// A term behind its sign.
+/// A term after its sign.
 #[tactic(auto, unfolding(crate::specs::ReadIndices::ix_term))]
-fn ix_term<'a>(
-    alloc: Global,
-    source: &[u8],
-    tokens: &'a [Token],
-) -> Result<(IxTerm, &'a [Token]), ParseFault>
-    requires { AreOf source.now tokens.now }
-    ensures read { Gives (λ x. (x.0, x.1.now)) result (indices.ix_term source.now tokens.now) }
-    ensures sound { IfOk result (λ x. AreOf source.now x.1.now) }
+fn ix_term(alloc: Global, cursor: &mut Cursor<'_>) -> Result<IxTerm, Halt>
+    ensures { Reads (spec.ix_term cursor.old) result cursor.new }
 {
-    let line = line_of(tokens);
-    let (minus, rest) = sign(source, tokens)?;
-    let (atoms, rest) = ix_product(alloc, source, rest)?;
-    Ok((IxTerm { line, minus, atoms }, rest))
+    let line = cursor.line();
+    let minus = sign(cursor)?;
+    let atoms = ix_product(alloc, cursor)?;
+    Ok(IxTerm { line, minus, atoms })
 }
 
-/// The terms behind signs.
+/// The terms after signs.
 #[tactic(auto, unfolding(crate::specs::ReadIndices::ix_terms))]
-fn ix_terms<'a>(
-    alloc: Global,
-    source: &[u8],
-    tokens: &'a [Token],
-) -> Result<(Items<IxTerm>, &'a [Token]), ParseFault>
-    requires { AreOf source.now tokens.now }
-    ensures read { Gives (λ x. (x.0, x.1.now)) result (indices.ix_terms source.now tokens.now) }
-    ensures sound { IfOk result (λ x. AreOf source.now x.1.now) }
+fn ix_terms(alloc: Global, cursor: &mut Cursor<'_>) -> Result<Items<IxTerm>, Halt>
+    ensures { Reads (spec.ix_terms cursor.old) result cursor.new }
 {
     let signs = [
         TokenKind::Symbol(symbol::PLUS),
         TokenKind::Symbol(symbol::MINUS),
     ];
-    let (all, rest) = each(
-        alloc,
-        source,
-        &signs,
-        |ts| ix_term(alloc, source, ts),
-        tokens,
-    )?;
-    Ok((all, rest))
+    let term = |c: &mut Cursor<'_>| ix_term(alloc, c);
+    each(alloc, &signs, term, cursor)
 }
 
-/// The first term.
+/// The first term, maybe with a minus.
 #[tactic(auto, unfolding(crate::specs::ReadIndices::first_ix_term))]
-fn first_ix_term<'a>(
-    alloc: Global,
-    source: &[u8],
-    tokens: &'a [Token],
-) -> Result<(IxTerm, &'a [Token]), ParseFault>
-    requires { AreOf source.now tokens.now }
-    ensures read { Gives (λ x. (x.0, x.1.now)) result (indices.first_ix_term source.now tokens.now) }
-    ensures sound { IfOk result (λ x. AreOf source.now x.1.now) }
+fn first_ix_term(alloc: Global, cursor: &mut Cursor<'_>) -> Result<IxTerm, Halt>
+    ensures { Reads (spec.first_ix_term cursor.old) result cursor.new }
 {
-    let line = line_of(tokens);
-    let (minus, rest) = whether(source, TokenKind::Symbol(symbol::MINUS), tokens)?;
-    let (atoms, rest) = ix_product(alloc, source, rest)?;
-    Ok((IxTerm { line, minus, atoms }, rest))
+    let line = cursor.line();
+    let minus = cursor.eat(TokenKind::Symbol(symbol::MINUS));
+    let atoms = ix_product(alloc, cursor)?;
+    Ok(IxTerm { line, minus, atoms })
 }
 
-/// The terms of a sum.
+/// A sum of index terms.
 #[tactic(auto, unfolding(crate::specs::ReadIndices::ix_sum))]
-fn ix_sum<'a>(
-    alloc: Global,
-    source: &[u8],
-    tokens: &'a [Token],
-) -> Result<(Items<IxTerm>, &'a [Token]), ParseFault>
-    requires { AreOf source.now tokens.now }
-    ensures read { Gives (λ x. (x.0, x.1.now)) result (indices.ix_sum source.now tokens.now) }
-    ensures sound { IfOk result (λ x. AreOf source.now x.1.now) }
+fn ix_sum(alloc: Global, cursor: &mut Cursor<'_>) -> Result<Items<IxTerm>, Halt>
+    ensures { Reads (spec.ix_sum cursor.old) result cursor.new }
 {
-    let (first, rest) = first_ix_term(alloc, source, tokens)?;
-    let (others, rest) = ix_terms(alloc, source, rest)?;
-    let all = in_front(alloc, first, others)?;
-    Ok((all, rest))
+    let first = first_ix_term(alloc, cursor)?;
+    let others = ix_terms(alloc, cursor)?;
+    Ok(with_first(alloc, first, others)?)
 }
 
-/// The free indices.
+/// The free names, where there are any.
 #[tactic(auto, unfolding(crate::specs::ReadIndices::free_names, crate::specs::Read::skip))]
-fn free_names<'a>(
-    alloc: Global,
-    source: &[u8],
-    tokens: &'a [Token],
-) -> Result<(Items<Name>, &'a [Token]), ParseFault>
-    requires { AreOf source.now tokens.now }
-    ensures read { Gives (λ x. (x.0, x.1.now)) result (indices.free_names source.now tokens.now) }
-    ensures sound { IfOk result (λ x. AreOf source.now x.1.now) }
+fn free_names(alloc: Global, cursor: &mut Cursor<'_>) -> Result<Items<Name>, Halt>
+    ensures { Reads (spec.free_names cursor.old) result cursor.new }
 {
-    if starts(&[TokenKind::Name], tokens) {
-        let (all, rest) = names(alloc, source, tokens)?;
-        return Ok((all, rest));
+    if cursor.is_at(TokenKind::Name) {
+        names(alloc, cursor)
+    } else {
+        Ok(Items::new(alloc))
     }
-    Ok((Items::new(alloc), tokens))
 }
 
 /// An index expression.
 #[tactic(auto, unfolding(crate::specs::ReadIndices::ix))]
-pub fn ix<'a>(
-    alloc: Global,
-    source: &[u8],
-    tokens: &'a [Token],
-) -> Result<(Right, &'a [Token]), ParseFault>
-    requires { AreOf source.now tokens.now }
-    ensures read { Gives (λ x. (x.0, x.1.now)) result (indices.ix source.now tokens.now) }
-    ensures sound { IfOk result (λ x. AreOf source.now x.1.now) }
+pub fn ix(alloc: Global, cursor: &mut Cursor<'_>) -> Result<Right, Halt>
+    ensures { Reads (spec.ix cursor.old) result cursor.new }
 {
-    let line = line_of(tokens);
-    let rest = skip(
-        source,
-        &[
-            TokenKind::Keyword(keyword::IX),
-            TokenKind::Symbol(symbol::OPEN_PAREN),
-        ],
-        tokens,
-    )?;
-    let (free, rest) = free_names(alloc, source, rest)?;
-    let rest = skip(source, &[TokenKind::Symbol(symbol::CLOSE_PAREN)], rest)?;
-    let (terms, rest) = ix_sum(alloc, source, rest)?;
-    Ok((Right::Ix { line, free, terms }, rest))
+    let line = cursor.line();
+    cursor.skip(&[
+        TokenKind::Keyword(keyword::IX),
+        TokenKind::Symbol(symbol::OPEN_PAREN),
+    ])?;
+    let free = free_names(alloc, cursor)?;
+    cursor.skip(&[TokenKind::Symbol(symbol::CLOSE_PAREN)])?;
+    let terms = ix_sum(alloc, cursor)?;
+    Ok(Right::Ix { line, free, terms })
 }

@@ -1,465 +1,278 @@
-//! Reads the statements of the main procedure.
+//! Statements of the main procedure.
 
-ghost use Rattle.std.specs.Prelude.{◌≡◌, IfOk};
-ghost use Rattle.sim_parser.specs.ReadExpressions as expressions;
+ghost use Rattle.std.specs.Prelude.{◌≡◌};
+ghost use Rattle.sim_parser.specs.ReadExpressions.{expression};
 ghost use Rattle.sim_parser.specs.ReadConditions as conditions;
-ghost use Rattle.sim_parser.specs.ReadMain as main;
-ghost use Rattle.sim_parser.specs.Read.{AreOf, Gives};
-ghost use Rattle.sim_parser.specs.Nests.{Nests};
+ghost use Rattle.sim_parser.specs.ReadMain as spec;
+ghost use Rattle.sim_parser.specs.Read.{Reader, Reads, spelt};
+ghost use Rattle.sim_parser.specs.Nests.{Follows, Nests};
 
 use crate::conditions::condition;
+use crate::cursor::Cursor;
 use crate::expressions::{expression, maybe_arguments};
+use crate::halt::Halt;
 use crate::indices::{ix, maybe_field};
-use crate::lists::{all_names, each, in_front, separated};
-use crate::parts::{ParseFault, line_of, name, skip, starts};
-use crate::statements::{assert_stmt, if_stmt};
-use sim_lexer::{Token, TokenKind, keyword, symbol};
-use sim_syntax::{Expr, Name, Right, Stmt, Target};
+use crate::lists::{separated, with_first};
+use crate::statements::Statements;
+use sim_lexer::{TokenKind, keyword, symbol};
+use sim_syntax::{Name, Right, Stmt, Target};
 use sqlite_items::Items;
 use std::alloc::Global;
 
+/// What a statement of the main procedure begins with.
+fn starts() -> [TokenKind; 6]
+    ensures { result ≡ spec.main_starts }
+{
+    [
+        TokenKind::Keyword(keyword::VAR),
+        TokenKind::Keyword(keyword::WHILE),
+        TokenKind::Keyword(keyword::FOR),
+        TokenKind::Keyword(keyword::IF),
+        TokenKind::Keyword(keyword::ASSERT),
+        TokenKind::Name,
+    ]
+}
+
 /// A target.
 #[tactic(auto, unfolding(crate::specs::ReadMain::target))]
-fn target<'a>(
-    alloc: Global,
-    source: &[u8],
-    tokens: &'a [Token],
-) -> Result<(Target, &'a [Token]), ParseFault>
-    requires { AreOf source.now tokens.now }
-    ensures read { Gives (λ x. (x.0, x.1.now)) result (main.target source.now tokens.now) }
-    ensures sound { IfOk result (λ x. AreOf source.now x.1.now) }
+fn target(alloc: Global, cursor: &mut Cursor<'_>) -> Result<Target, Halt>
+    ensures { Reads (spec.target cursor.old) result cursor.new }
 {
-    let line = line_of(tokens);
-    let (name, rest) = name(alloc, source, tokens)?;
-    let (field, rest) = maybe_field(alloc, source, rest)?;
-    Ok((Target { line, name, field }, rest))
-}
-
-/// Targets with commas between.
-#[tactic(auto, unfolding(crate::specs::ReadMain::targets))]
-fn targets<'a>(
-    alloc: Global,
-    source: &[u8],
-    tokens: &'a [Token],
-) -> Result<(Items<Target>, &'a [Token]), ParseFault>
-    requires { AreOf source.now tokens.now }
-    ensures read { Gives (λ x. (x.0, x.1.now)) result (main.targets source.now tokens.now) }
-    ensures sound { IfOk result (λ x. AreOf source.now x.1.now) }
-{
-    let (all, rest) = separated(
-        alloc,
-        source,
-        TokenKind::Symbol(symbol::COMMA),
-        |ts| target(alloc, source, ts),
-        tokens,
-    )?;
-    Ok((all, rest))
-}
-
-/// The set of a map.
-#[tactic(auto, unfolding(crate::specs::ReadMain::map_set))]
-fn map_set<'a>(
-    alloc: Global,
-    source: &[u8],
-    tokens: &'a [Token],
-) -> Result<(Name, &'a [Token]), ParseFault>
-    requires { AreOf source.now tokens.now }
-    ensures read { Gives (λ x. (x.0, x.1.now)) result (main.map_set source.now tokens.now) }
-    ensures sound { IfOk result (λ x. AreOf source.now x.1.now) }
-{
-    let rest = skip(source, &[TokenKind::Keyword(keyword::TO)], tokens)?;
-    let (set, rest) = name(alloc, source, rest)?;
-    Ok((set, rest))
+    let line = cursor.line();
+    let name = cursor.name(alloc)?;
+    let field = maybe_field(alloc, cursor)?;
+    Ok(Target { line, name, field })
 }
 
 /// A map.
 #[tactic(auto, unfolding(crate::specs::ReadMain::map_right))]
-fn map_right<'a>(
-    alloc: Global,
-    source: &[u8],
-    room: usize,
-    tokens: &'a [Token],
-) -> Result<(Right, &'a [Token]), ParseFault>
-    requires { AreOf source.now tokens.now }
-    ensures read { Gives (λ x. (x.0, x.1.now)) result (main.map_right source.now (expressions.expression source.now room) tokens.now) }
-    ensures sound { IfOk result (λ x. AreOf source.now x.1.now) }
+fn map_right(alloc: Global, cursor: &mut Cursor<'_>, depth: usize) -> Result<Right, Halt>
+    ensures { Reads (spec.map_right (expression depth) cursor.old) result cursor.new }
 {
-    let line = line_of(tokens);
-    let rest = skip(source, &[TokenKind::Keyword(keyword::MAP)], tokens)?;
-    let (func, rest) = name(alloc, source, rest)?;
-    let (args, rest) = maybe_arguments(alloc, source, room, rest)?;
-    let (set, rest) = map_set(alloc, source, rest)?;
-    let rest = skip(
-        source,
-        &[
-            TokenKind::Keyword(keyword::REDUCE),
-            TokenKind::Symbol(symbol::PLUS),
-        ],
-        rest,
-    )?;
-    let map = Right::Map {
+    let line = cursor.line();
+    cursor.skip(&[TokenKind::Keyword(keyword::MAP)])?;
+    let func = cursor.name(alloc)?;
+    let args = maybe_arguments(alloc, cursor, depth)?;
+    cursor.skip(&[TokenKind::Keyword(keyword::TO)])?;
+    let set = cursor.name(alloc)?;
+    cursor.skip(&[
+        TokenKind::Keyword(keyword::REDUCE),
+        TokenKind::Symbol(symbol::PLUS),
+    ])?;
+    Ok(Right::Map {
         line,
         func,
         args,
         set,
-    };
-    Ok((map, rest))
+    })
 }
 
 /// An expression as a right side.
 #[tactic(auto, unfolding(crate::specs::ReadMain::value_right))]
-fn value_right<'a>(
-    alloc: Global,
-    source: &[u8],
-    room: usize,
-    tokens: &'a [Token],
-) -> Result<(Right, &'a [Token]), ParseFault>
-    requires { AreOf source.now tokens.now }
-    ensures read { Gives (λ x. (x.0, x.1.now)) result (main.value_right source.now (expressions.expression source.now room) tokens.now) }
-    ensures sound { IfOk result (λ x. AreOf source.now x.1.now) }
+fn value_right(alloc: Global, cursor: &mut Cursor<'_>, depth: usize) -> Result<Right, Halt>
+    ensures { Reads (spec.value_right (expression depth) cursor.old) result cursor.new }
 {
-    let (value, rest) = expression(alloc, source, room, tokens)?;
-    Ok((Right::Value(value), rest))
+    let value = expression(alloc, cursor, depth)?;
+    Ok(Right::Value(value))
 }
 
 /// A right side.
 #[tactic(auto, unfolding(crate::specs::ReadMain::right))]
-fn right<'a>(
-    alloc: Global,
-    source: &[u8],
-    room: usize,
-    tokens: &'a [Token],
-) -> Result<(Right, &'a [Token]), ParseFault>
-    requires { AreOf source.now tokens.now }
-    ensures read { Gives (λ x. (x.0, x.1.now)) result (main.right source.now (expressions.expression source.now room) tokens.now) }
-    ensures sound { IfOk result (λ x. AreOf source.now x.1.now) }
+fn right(alloc: Global, cursor: &mut Cursor<'_>, depth: usize) -> Result<Right, Halt>
+    ensures { Reads (spec.right (expression depth) cursor.old) result cursor.new }
 {
-    let (right, rest) = if starts(&[TokenKind::Keyword(keyword::MAP)], tokens) {
-        map_right(alloc, source, room, tokens)?
-    } else if starts(&[TokenKind::Keyword(keyword::IX)], tokens) {
-        ix(alloc, source, tokens)?
+    if cursor.is_at(TokenKind::Keyword(keyword::MAP)) {
+        map_right(alloc, cursor, depth)
+    } else if cursor.is_at(TokenKind::Keyword(keyword::IX)) {
+        ix(alloc, cursor)
     } else {
-        value_right(alloc, source, room, tokens)?
-    };
-    Ok((right, rest))
-}
-
-/// A right side behind `=`.
-#[tactic(auto, unfolding(crate::specs::ReadMain::assigned_right))]
-fn assigned_right<'a>(
-    alloc: Global,
-    source: &[u8],
-    room: usize,
-    tokens: &'a [Token],
-) -> Result<(Right, &'a [Token]), ParseFault>
-    requires { AreOf source.now tokens.now }
-    ensures read { Gives (λ x. (x.0, x.1.now)) result (main.assigned_right source.now (expressions.expression source.now room) tokens.now) }
-    ensures sound { IfOk result (λ x. AreOf source.now x.1.now) }
-{
-    let rest = skip(source, &[TokenKind::Symbol(symbol::ASSIGN)], tokens)?;
-    let (side, rest) = right(alloc, source, room, rest)?;
-    Ok((side, rest))
-}
-
-/// A map behind `=`.
-#[tactic(auto, unfolding(crate::specs::ReadMain::assigned_map))]
-fn assigned_map<'a>(
-    alloc: Global,
-    source: &[u8],
-    room: usize,
-    tokens: &'a [Token],
-) -> Result<(Right, &'a [Token]), ParseFault>
-    requires { AreOf source.now tokens.now }
-    ensures read { Gives (λ x. (x.0, x.1.now)) result (main.assigned_map source.now (expressions.expression source.now room) tokens.now) }
-    ensures sound { IfOk result (λ x. AreOf source.now x.1.now) }
-{
-    let rest = skip(source, &[TokenKind::Symbol(symbol::ASSIGN)], tokens)?;
-    let (side, rest) = map_right(alloc, source, room, rest)?;
-    Ok((side, rest))
-}
-
-/// Further names, and the right side.
-#[tactic(auto, unfolding(crate::specs::ReadMain::var_sides))]
-fn var_sides<'a>(
-    alloc: Global,
-    source: &[u8],
-    room: usize,
-    tokens: &'a [Token],
-) -> Result<((Items<Name>, Right), &'a [Token]), ParseFault>
-    requires { AreOf source.now tokens.now }
-    ensures read { Gives (λ x. (x.0, x.1.now)) result (main.var_sides source.now (expressions.expression source.now room) tokens.now) }
-    ensures sound { IfOk result (λ x. AreOf source.now x.1.now) }
-{
-    if starts(&[TokenKind::Symbol(symbol::ASSIGN)], tokens) {
-        let (side, rest) = assigned_right(alloc, source, room, tokens)?;
-        return Ok(((Items::new(alloc), side), rest));
+        value_right(alloc, cursor, depth)
     }
-    let rest = skip(source, &[TokenKind::Symbol(symbol::COMMA)], tokens)?;
-    let (others, rest) = all_names(alloc, source, rest)?;
-    let (side, rest) = assigned_map(alloc, source, room, rest)?;
-    Ok(((others, side), rest))
 }
 
-/// Further targets, and the right side.
-#[tactic(auto, unfolding(crate::specs::ReadMain::assign_sides))]
-fn assign_sides<'a>(
+/// The right side, or further names or targets after commas and a map.
+#[tactic(auto, unfolding(crate::specs::ReadMain::sides))]
+fn sides<T: Drop, P: Fn(&mut Cursor<'_>) -> Result<T, Halt>>(
     alloc: Global,
-    source: &[u8],
-    room: usize,
-    tokens: &'a [Token],
-) -> Result<((Items<Target>, Right), &'a [Token]), ParseFault>
-    requires { AreOf source.now tokens.now }
-    ensures read { Gives (λ x. (x.0, x.1.now)) result (main.assign_sides source.now (expressions.expression source.now room) tokens.now) }
-    ensures sound { IfOk result (λ x. AreOf source.now x.1.now) }
+    depth: usize,
+    part: P,
+    cursor: &mut Cursor<'_>,
+) -> Result<(Items<T>, Right), Halt>
+    requires { P.IsAlwaysCallable part }
+    ensures { (reader : Reader T) → Follows reader (P.post part) → Reads (spec.sides (expression depth) reader cursor.old) result cursor.new }
 {
-    if starts(&[TokenKind::Symbol(symbol::ASSIGN)], tokens) {
-        let (side, rest) = assigned_right(alloc, source, room, tokens)?;
-        return Ok(((Items::new(alloc), side), rest));
+    if cursor.is_at(TokenKind::Symbol(symbol::ASSIGN)) {
+        cursor.skip(&[TokenKind::Symbol(symbol::ASSIGN)])?;
+        let side = right(alloc, cursor, depth)?;
+        return Ok((Items::new(alloc), side));
     }
-    let rest = skip(source, &[TokenKind::Symbol(symbol::COMMA)], tokens)?;
-    let (others, rest) = targets(alloc, source, rest)?;
-    let (side, rest) = assigned_map(alloc, source, room, rest)?;
-    Ok(((others, side), rest))
+    cursor.skip(&[TokenKind::Symbol(symbol::COMMA)])?;
+    let others = separated(alloc, TokenKind::Symbol(symbol::COMMA), part, cursor)?;
+    cursor.skip(&[TokenKind::Symbol(symbol::ASSIGN)])?;
+    let side = map_right(alloc, cursor, depth)?;
+    Ok((others, side))
+}
+
+/// The right side of new variables, and the further names.
+fn name_sides(
+    alloc: Global,
+    cursor: &mut Cursor<'_>,
+    depth: usize,
+) -> Result<(Items<Name>, Right), Halt>
+    ensures { Reads (spec.sides (expression depth) (spelt TokenKind.Name) cursor.old) result cursor.new }
+{
+    let part = |c: &mut Cursor<'_>| c.name(alloc);
+    sides(alloc, depth, part, cursor)
+}
+
+/// The right side of an assignment, and the further targets.
+fn target_sides(
+    alloc: Global,
+    cursor: &mut Cursor<'_>,
+    depth: usize,
+) -> Result<(Items<Target>, Right), Halt>
+    ensures { Reads (spec.sides (expression depth) spec.target cursor.old) result cursor.new }
+{
+    let part = |c: &mut Cursor<'_>| target(alloc, c);
+    sides(alloc, depth, part, cursor)
 }
 
 /// New variables.
 #[tactic(auto, unfolding(crate::specs::ReadMain::var))]
-fn var<'a>(
-    alloc: Global,
-    source: &[u8],
-    room: usize,
-    tokens: &'a [Token],
-) -> Result<(Stmt, &'a [Token]), ParseFault>
-    requires { AreOf source.now tokens.now }
-    ensures read { Gives (λ x. (x.0, x.1.now)) result (main.var source.now (expressions.expression source.now room) tokens.now) }
-    ensures sound { IfOk result (λ x. AreOf source.now x.1.now) }
+fn var(alloc: Global, cursor: &mut Cursor<'_>, depth: usize) -> Result<Stmt, Halt>
+    ensures { Reads (spec.var (expression depth) cursor.old) result cursor.new }
 {
-    let line = line_of(tokens);
-    let rest = skip(source, &[TokenKind::Keyword(keyword::VAR)], tokens)?;
-    let (first, rest) = name(alloc, source, rest)?;
-    let ((others, right), rest) = var_sides(alloc, source, room, rest)?;
-    let rest = skip(source, &[TokenKind::Symbol(symbol::SEMICOLON)], rest)?;
-    let names = in_front(alloc, first, others)?;
-    Ok((Stmt::Var { line, names, right }, rest))
+    let line = cursor.line();
+    cursor.skip(&[TokenKind::Keyword(keyword::VAR)])?;
+    let first = cursor.name(alloc)?;
+    let (others, right) = name_sides(alloc, cursor, depth)?;
+    cursor.skip(&[TokenKind::Symbol(symbol::SEMICOLON)])?;
+    let names = with_first(alloc, first, others)?;
+    Ok(Stmt::Var { line, names, right })
 }
 
 /// An assignment.
 #[tactic(auto, unfolding(crate::specs::ReadMain::assign))]
-fn assign<'a>(
-    alloc: Global,
-    source: &[u8],
-    room: usize,
-    tokens: &'a [Token],
-) -> Result<(Stmt, &'a [Token]), ParseFault>
-    requires { AreOf source.now tokens.now }
-    ensures read { Gives (λ x. (x.0, x.1.now)) result (main.assign source.now (expressions.expression source.now room) tokens.now) }
-    ensures sound { IfOk result (λ x. AreOf source.now x.1.now) }
+fn assign(alloc: Global, cursor: &mut Cursor<'_>, depth: usize) -> Result<Stmt, Halt>
+    ensures { Reads (spec.assign (expression depth) cursor.old) result cursor.new }
 {
-    let line = line_of(tokens);
-    let (first, rest) = target(alloc, source, tokens)?;
-    let ((others, right), rest) = assign_sides(alloc, source, room, rest)?;
-    let rest = skip(source, &[TokenKind::Symbol(symbol::SEMICOLON)], rest)?;
-    let targets = in_front(alloc, first, others)?;
-    let stmt = Stmt::Assign {
+    let line = cursor.line();
+    let first = target(alloc, cursor)?;
+    let (others, right) = target_sides(alloc, cursor, depth)?;
+    cursor.skip(&[TokenKind::Symbol(symbol::SEMICOLON)])?;
+    let targets = with_first(alloc, first, others)?;
+    Ok(Stmt::Assign {
         line,
         targets,
         right,
-    };
-    Ok((stmt, rest))
+    })
 }
 
-/// The rules of the main procedure's statements, over a reader of the statements inside.
-#[derive(Clone, Copy)]
-struct MainStatements<'a, F> {
-    alloc: Global,
-    /// The text of the program.
-    source: &'a [u8],
-    /// How deep statements and expressions may be nested inside.
-    room: usize,
-    inner: F,
-}
-
-impl<
-    F: for<'s, 't> Fn(
-        Global,
-        &'s [u8],
-        usize,
-        &'t [Token],
-    ) -> Result<(Stmt, &'t [Token]), ParseFault>,
-> MainStatements<'_, F> {
-    /// A statement inside.
-    fn inner<'a>(&self, tokens: &'a [Token]) -> Result<(Stmt, &'a [Token]), ParseFault>
-        requires nests { Nests main.main_statement self.now.room (F.pre self.now.inner) (F.post self.now.inner) }
-        requires tokens { AreOf self.now.source.now tokens.now }
-        ensures read { Gives (λ x. (x.0, x.1.now)) result (main.main_statement self.now.source.now self.now.room tokens.now) }
-        ensures sound { IfOk result (λ x. AreOf self.now.source.now x.1.now) }
-    {
-        (self.inner)(self.alloc, self.source, self.room, tokens)
-    }
-
-    /// Statements.
+impl<F: Fn(Global, &mut Cursor<'_>, usize) -> Result<Stmt, Halt>> Statements<F> {
+    /// The statements inside.
     #[tactic(auto, unfolding(crate::specs::ReadMain::main_body))]
-    fn body<'a>(&self, tokens: &'a [Token]) -> Result<(Items<Stmt>, &'a [Token]), ParseFault>
-        requires nests { Nests main.main_statement self.now.room (F.pre self.now.inner) (F.post self.now.inner) }
-        requires tokens { AreOf self.now.source.now tokens.now }
-        ensures read { Gives (λ x. (x.0, x.1.now)) result (main.main_body self.now.source.now self.now.room tokens.now) }
-        ensures sound { IfOk result (λ x. AreOf self.now.source.now x.1.now) }
+    fn main_body(&self, cursor: &mut Cursor<'_>) -> Result<Items<Stmt>, Halt>
+        requires { Nests spec.main_statement self.now.depth (F.pre self.now.inner) (F.post self.now.inner) }
+        ensures { Reads (spec.main_body self.now.depth cursor.old) result cursor.new }
     {
-        let kinds = [
-            TokenKind::Keyword(keyword::VAR),
-            TokenKind::Keyword(keyword::WHILE),
-            TokenKind::Keyword(keyword::FOR),
-            TokenKind::Keyword(keyword::IF),
-            TokenKind::Keyword(keyword::ASSERT),
-            TokenKind::Name,
-        ];
-        let (all, rest) = each(self.alloc, self.source, &kinds, |ts| self.inner(ts), tokens)?;
-        Ok((all, rest))
+        self.body(&starts(), cursor)
     }
 
     /// A loop with a condition.
     #[tactic(auto, unfolding(crate::specs::ReadMain::while_stmt))]
-    fn while_stmt<'a>(&self, tokens: &'a [Token]) -> Result<(Stmt, &'a [Token]), ParseFault>
-        requires nests { Nests main.main_statement self.now.room (F.pre self.now.inner) (F.post self.now.inner) }
-        requires tokens { AreOf self.now.source.now tokens.now }
-        ensures read { Gives (λ x. (x.0, x.1.now)) result (main.while_stmt self.now.source.now (expressions.expression self.now.source.now self.now.room) (main.main_body self.now.source.now self.now.room) tokens.now) }
-        ensures sound { IfOk result (λ x. AreOf self.now.source.now x.1.now) }
+    fn while_stmt(&self, cursor: &mut Cursor<'_>) -> Result<Stmt, Halt>
+        requires { Nests spec.main_statement self.now.depth (F.pre self.now.inner) (F.post self.now.inner) }
+        ensures { Reads (spec.while_stmt (expression self.now.depth) (spec.main_body self.now.depth) cursor.old) result cursor.new }
     {
-        let line = line_of(tokens);
-        let rest = skip(self.source, &[TokenKind::Keyword(keyword::WHILE)], tokens)?;
-        let (cond, rest) = condition(self.alloc, self.source, self.room, rest)?;
-        let (body, rest) = self.body(rest)?;
-        let rest = skip(self.source, &[TokenKind::Keyword(keyword::END)], rest)?;
-        Ok((Stmt::While { line, cond, body }, rest))
-    }
-
-    /// The bounds and the body of a loop.
-    #[tactic(auto, unfolding(crate::specs::ReadMain::range))]
-    fn range<'a>(
-        &self,
-        tokens: &'a [Token],
-    ) -> Result<((Expr, (Expr, Items<Stmt>)), &'a [Token]), ParseFault>
-        requires nests { Nests main.main_statement self.now.room (F.pre self.now.inner) (F.post self.now.inner) }
-        requires tokens { AreOf self.now.source.now tokens.now }
-        ensures read { Gives (λ x. (x.0, x.1.now)) result (main.range self.now.source.now (expressions.expression self.now.source.now self.now.room) (main.main_body self.now.source.now self.now.room) tokens.now) }
-        ensures sound { IfOk result (λ x. AreOf self.now.source.now x.1.now) }
-    {
-        let rest = skip(self.source, &[TokenKind::Keyword(keyword::IN)], tokens)?;
-        let (from, rest) = expression(self.alloc, self.source, self.room, rest)?;
-        let rest = skip(self.source, &[TokenKind::Symbol(symbol::COLON)], rest)?;
-        let (to, rest) = expression(self.alloc, self.source, self.room, rest)?;
-        let (body, rest) = self.body(rest)?;
-        Ok(((from, (to, body)), rest))
+        let line = cursor.line();
+        cursor.skip(&[TokenKind::Keyword(keyword::WHILE)])?;
+        let cond = condition(self.alloc, cursor, self.depth)?;
+        let body = self.main_body(cursor)?;
+        cursor.skip(&[TokenKind::Keyword(keyword::END)])?;
+        Ok(Stmt::While { line, cond, body })
     }
 
     /// A loop between bounds.
     #[tactic(auto, unfolding(crate::specs::ReadMain::for_stmt))]
-    fn for_stmt<'a>(&self, tokens: &'a [Token]) -> Result<(Stmt, &'a [Token]), ParseFault>
-        requires nests { Nests main.main_statement self.now.room (F.pre self.now.inner) (F.post self.now.inner) }
-        requires tokens { AreOf self.now.source.now tokens.now }
-        ensures read { Gives (λ x. (x.0, x.1.now)) result (main.for_stmt self.now.source.now (expressions.expression self.now.source.now self.now.room) (main.main_body self.now.source.now self.now.room) tokens.now) }
-        ensures sound { IfOk result (λ x. AreOf self.now.source.now x.1.now) }
+    fn for_stmt(&self, cursor: &mut Cursor<'_>) -> Result<Stmt, Halt>
+        requires { Nests spec.main_statement self.now.depth (F.pre self.now.inner) (F.post self.now.inner) }
+        ensures { Reads (spec.for_stmt (expression self.now.depth) (spec.main_body self.now.depth) cursor.old) result cursor.new }
     {
-        let line = line_of(tokens);
-        let rest = skip(self.source, &[TokenKind::Keyword(keyword::FOR)], tokens)?;
-        let (name, rest) = name(self.alloc, self.source, rest)?;
-        let ((from, (to, body)), rest) = self.range(rest)?;
-        let rest = skip(self.source, &[TokenKind::Keyword(keyword::END)], rest)?;
-        let stmt = Stmt::For {
+        let line = cursor.line();
+        cursor.skip(&[TokenKind::Keyword(keyword::FOR)])?;
+        let name = cursor.name(self.alloc)?;
+        cursor.skip(&[TokenKind::Keyword(keyword::IN)])?;
+        let from = expression(self.alloc, cursor, self.depth)?;
+        cursor.skip(&[TokenKind::Symbol(symbol::COLON)])?;
+        let to = expression(self.alloc, cursor, self.depth)?;
+        let body = self.main_body(cursor)?;
+        cursor.skip(&[TokenKind::Keyword(keyword::END)])?;
+        Ok(Stmt::For {
             line,
             name,
             from,
             to,
             body,
-        };
-        Ok((stmt, rest))
+        })
     }
 
     /// A choice between statements.
-    #[tactic(auto)]
-    fn choice<'a>(&self, tokens: &'a [Token]) -> Result<(Stmt, &'a [Token]), ParseFault>
-        requires nests { Nests main.main_statement self.now.room (F.pre self.now.inner) (F.post self.now.inner) }
-        requires tokens { AreOf self.now.source.now tokens.now }
-        ensures read { Gives (λ x. (x.0, x.1.now)) result (conditions.if_stmt self.now.source.now (expressions.expression self.now.source.now self.now.room) (main.main_body self.now.source.now self.now.room) tokens.now) }
-        ensures sound { IfOk result (λ x. AreOf self.now.source.now x.1.now) }
+    #[tactic(auto, unfolding(crate::specs::ReadMain::main_body))]
+    fn main_if(&self, cursor: &mut Cursor<'_>) -> Result<Stmt, Halt>
+        requires { Nests spec.main_statement self.now.depth (F.pre self.now.inner) (F.post self.now.inner) }
+        ensures { Reads (conditions.if_stmt (expression self.now.depth) (spec.main_body self.now.depth) cursor.old) result cursor.new }
     {
-        let (stmt, rest) = if_stmt(
-            self.alloc,
-            self.source,
-            self.room,
-            |ts| self.body(ts),
-            tokens,
-        )?;
-        Ok((stmt, rest))
+        self.if_stmt(&starts(), cursor)
     }
 
     /// A statement.
     #[tactic(auto, unfolding(crate::specs::ReadMain::main_stmt))]
-    fn main_stmt<'a>(&self, tokens: &'a [Token]) -> Result<(Stmt, &'a [Token]), ParseFault>
-        requires nests { Nests main.main_statement self.now.room (F.pre self.now.inner) (F.post self.now.inner) }
-        requires tokens { AreOf self.now.source.now tokens.now }
-        ensures read { Gives (λ x. (x.0, x.1.now)) result (main.main_stmt self.now.source.now (expressions.expression self.now.source.now self.now.room) (main.main_body self.now.source.now self.now.room) tokens.now) }
-        ensures sound { IfOk result (λ x. AreOf self.now.source.now x.1.now) }
+    fn main_stmt(&self, cursor: &mut Cursor<'_>) -> Result<Stmt, Halt>
+        requires { Nests spec.main_statement self.now.depth (F.pre self.now.inner) (F.post self.now.inner) }
+        ensures { Reads (spec.main_stmt (expression self.now.depth) (spec.main_body self.now.depth) cursor.old) result cursor.new }
     {
-        let (stmt, rest) = if starts(&[TokenKind::Keyword(keyword::VAR)], tokens) {
-            var(self.alloc, self.source, self.room, tokens)?
-        } else if starts(&[TokenKind::Keyword(keyword::WHILE)], tokens) {
-            self.while_stmt(tokens)?
-        } else if starts(&[TokenKind::Keyword(keyword::FOR)], tokens) {
-            self.for_stmt(tokens)?
-        } else if starts(&[TokenKind::Keyword(keyword::IF)], tokens) {
-            self.choice(tokens)?
-        } else if starts(&[TokenKind::Keyword(keyword::ASSERT)], tokens) {
-            assert_stmt(self.alloc, self.source, self.room, tokens)?
+        if cursor.is_at(TokenKind::Keyword(keyword::VAR)) {
+            var(self.alloc, cursor, self.depth)
+        } else if cursor.is_at(TokenKind::Keyword(keyword::WHILE)) {
+            self.while_stmt(cursor)
+        } else if cursor.is_at(TokenKind::Keyword(keyword::FOR)) {
+            self.for_stmt(cursor)
+        } else if cursor.is_at(TokenKind::Keyword(keyword::IF)) {
+            self.main_if(cursor)
+        } else if cursor.is_at(TokenKind::Keyword(keyword::ASSERT)) {
+            self.assert_stmt(cursor)
         } else {
-            assign(self.alloc, self.source, self.room, tokens)?
-        };
-        Ok((stmt, rest))
+            assign(self.alloc, cursor, self.depth)
+        }
     }
 }
 
 /// A statement in which others, and expressions, are nested less than so deep.
-fn main_statement<'s, 't>(
-    alloc: Global,
-    source: &'s [u8],
-    room: usize,
-    tokens: &'t [Token],
-) -> Result<(Stmt, &'t [Token]), ParseFault>
-    requires { AreOf source.now tokens.now }
-    ensures read { Gives (λ x. (x.0, x.1.now)) result (main.main_statement source.now room tokens.now) }
-    ensures sound { IfOk result (λ x. AreOf source.now x.1.now) }
+fn main_statement(alloc: Global, cursor: &mut Cursor<'_>, depth: usize) -> Result<Stmt, Halt>
+    ensures { Reads (spec.main_statement depth cursor.old) result cursor.new }
 {
-    if room == 0 {
-        return Err(ParseFault::Syntax);
+    if depth == 0 {
+        return Err(Halt::Syntax);
     }
-    let rules = MainStatements {
+    let depth = depth - 1;
+    let inner = main_statement;
+    Statements {
         alloc,
-        source,
-        room: room - 1,
-        inner: main_statement,
-    };
-    let (stmt, rest) = rules.main_stmt(tokens)?;
-    Ok((stmt, rest))
+        depth,
+        inner,
+    }
+    .main_stmt(cursor)
 }
 
 /// Statements in which others, and expressions, are nested less than so deep.
-#[tactic(auto, unfolding(crate::specs::ReadMain::main_body))]
-pub fn main_body<'a>(
-    alloc: Global,
-    source: &[u8],
-    room: usize,
-    tokens: &'a [Token],
-) -> Result<(Items<Stmt>, &'a [Token]), ParseFault>
-    requires { AreOf source.now tokens.now }
-    ensures read { Gives (λ x. (x.0, x.1.now)) result (main.main_body source.now room tokens.now) }
-    ensures sound { IfOk result (λ x. AreOf source.now x.1.now) }
+pub fn main_body(alloc: Global, cursor: &mut Cursor<'_>, depth: usize) -> Result<Items<Stmt>, Halt>
+    ensures { Reads (spec.main_body depth cursor.old) result cursor.new }
 {
-    let rules = MainStatements {
+    let inner = main_statement;
+    Statements {
         alloc,
-        source,
-        room,
-        inner: main_statement,
-    };
-    let (all, rest) = rules.body(tokens)?;
-    Ok((all, rest))
+        depth,
+        inner,
+    }
+    .main_body(cursor)
 }

@@ -1,78 +1,101 @@
 //! The tree of a program's tokens.
 
-ghost use Rattle.std.specs.Prelude.{◌≡◌, ◌↔◌, IfOk, IsErrOf, Some, All};
-ghost use Rattle.sim_lexer.specs.Tokens.{IsSpelled, LiesIn};
-ghost use Rattle.sim_parser.specs.Grammar.{Derives, IsUnambiguous};
-ghost use Rattle.sim_parser.specs.ReadProgram as program;
-ghost use Rattle.sim_parser.specs.Read.{AreOf, Gives};
+ghost use Rattle.std.specs.Prelude.{◌≡◌, ◌≤◌, ◌↔◌, ℕ, Ok, Err, IfOk, All, length};
+ghost use Rattle.std.specs.Result.{result_map_both};
+ghost use Rattle.vocabulary.specs.Answers.{Answers};
+ghost use Rattle.sim_lexer.specs.Tokens.{EndsOnce, IsSpelled, LiesIn};
+ghost use Rattle.sim_lexer.specs.Words.{words_of};
+ghost use Rattle.sim_parser.specs.Grammar.{Derives, IsPlace, IsUnambiguous};
+ghost use Rattle.sim_parser.specs.ReadProgram as spec;
+ghost use Rattle.sim_parser.specs.Cursor.{AreOf};
+ghost use Rattle.sim_parser.specs.Read.{Reads};
 ghost use Rattle.sim_syntax.specs.declared.program.Program as tree;
 
+use crate::cursor::Cursor;
 use crate::declarations::declarations;
+use crate::halt::Halt;
 use crate::main_procedure::main_body;
-use crate::parts::{ParseFault, line_of, skip};
 use sim_lexer::{Token, TokenKind, Tokens, keyword};
 use sim_syntax::Program;
 use std::alloc::Global;
+use thiserror::Error;
+use vocabulary::limits::MOST_TOKENS;
+
+/// Why the tokens of a text have no tree.
+#[derive(Clone, Copy, Debug, PartialEq, Eq, Error)]
+pub enum ParseFault {
+    /// The tokens before the one of this index, from 0, are a cut of a program, and with it they are none.
+    #[error("syntax fault at token {token}")]
+    Syntax { token: u32 },
+    /// Out of memory.
+    #[error("no memory")]
+    Memory,
+}
 
 /// A program in which statements and expressions are nested less than so deep.
 #[tactic(auto, unfolding(crate::specs::ReadProgram::program))]
-fn program<'a>(
-    alloc: Global,
-    source: &[u8],
-    room: usize,
-    tokens: &'a [Token],
-) -> Result<(Program, &'a [Token]), ParseFault>
-    requires { AreOf source.now tokens.now }
-    ensures read { Gives (λ x. (x.0, x.1.now)) result (program.program source.now room tokens.now) }
-    ensures sound { IfOk result (λ x. AreOf source.now x.1.now) }
+fn program(alloc: Global, cursor: &mut Cursor<'_>, depth: usize) -> Result<Program, Halt>
+    ensures { Reads (spec.program depth cursor.old) result cursor.new }
 {
-    let line = line_of(tokens);
-    let (decls, rest) = declarations(alloc, source, room, tokens)?;
-    let rest = skip(
-        source,
-        &[
-            TokenKind::Keyword(keyword::PROC),
-            TokenKind::Keyword(keyword::MAIN),
-        ],
-        rest,
-    )?;
-    let (body, rest) = main_body(alloc, source, room, rest)?;
-    let rest = skip(
-        source,
-        &[TokenKind::Keyword(keyword::END), TokenKind::End],
-        rest,
-    )?;
-    Ok((Program { line, decls, body }, rest))
+    let line = cursor.line();
+    let decls = declarations(alloc, cursor, depth)?;
+    cursor.skip(&[
+        TokenKind::Keyword(keyword::PROC),
+        TokenKind::Keyword(keyword::MAIN),
+    ])?;
+    let body = main_body(alloc, cursor, depth)?;
+    cursor.skip(&[TokenKind::Keyword(keyword::END)])?;
+    Ok(Program { line, decls, body })
 }
 
-/// The program of all these tokens.
+/// A program and the end of the text.
+#[tactic(auto, unfolding(crate::specs::ReadProgram::program_text))]
+fn program_text(alloc: Global, cursor: &mut Cursor<'_>, depth: usize) -> Result<Program, Halt>
+    ensures { Reads (spec.program_text depth cursor.old) result cursor.new }
+{
+    let program = program(alloc, cursor, depth)?;
+    cursor.skip(&[TokenKind::End])?;
+    Ok(program)
+}
+
+/// The program of these tokens, or the place where they stop being a cut of one.
 #[tactic(auto, unfolding(crate::specs::ReadProgram::program_in))]
 fn program_in(alloc: Global, source: &[u8], tokens: &[Token]) -> Result<Program, ParseFault>
-    requires { AreOf source.now tokens.now }
-    ensures { Gives (λ p. p) result (program.program_in source.now tokens.now) }
+    requires of { AreOf source.now tokens.now }
+    requires few { length tokens.now ≤ MOST_TOKENS }
+    ensures { Answers ParseFault.Memory (result_map_both (λ p. p) ParseFault.Syntax (spec.program_in (words_of source.now tokens.now))) result }
 {
-    let (program, rest) = program(alloc, source, tokens.len(), tokens)?;
-    match rest {
-        [] => Ok(program),
-        _ => Err(ParseFault::Syntax),
+    let mut cursor = Cursor::of(source, tokens);
+    match program_text(alloc, &mut cursor, tokens.len()) {
+        Ok(program) => Ok(program),
+        Err(Halt::Memory) => Err(ParseFault::Memory),
+        Err(Halt::Syntax) => {
+            let token = (tokens.len() - cursor.left()) as u32;
+            Err(ParseFault::Syntax { token })
+        }
     }
 }
 
-/// The tree of the tokens of a text. Syntax exactly where they have none.
+/// The tree of the tokens of a text; or `Syntax` exactly where they have none, at the token where they stop being a
+/// cut of a program, which is one of them.
 pub fn parse(alloc: Global, source: &[u8], tokens: &Tokens) -> Result<Program, ParseFault>
-    // The tokens are those of the text, as the lexer tells of them.
+    // The tokens are those of the text, as the lexer says of them.
     requires lie { All (LiesIn source.now) tokens.now }
     requires spell { All (IsSpelled source.now) tokens.now }
-    // By the grammar: what is answered is derived, and what is derived is answered, unless memory ran out.
-    ensures derived { IfOk result (λ p. Derives source.now p tokens.now) }
-    ensures only { (p : tree.Program) → Derives source.now p tokens.now → Gives (λ q. q) result (Some p) }
-    // The tokens are refused only where no tree is derived.
-    ensures refused { IsErrOf result ParseFault.Syntax → (p : tree.Program) → Derives source.now p tokens.now → ⊥ }
-    ensures unambiguous { IsUnambiguous source.now }
-    // The reader that the definitions of programs use reads exactly what the grammar derives.
-    ensures reads_grammar { (p : tree.Program) → (program.program_in source.now tokens.now ≡ Some p) ↔ Derives source.now p tokens.now }
-    // Which tree it is.
-    ensures read { Gives (λ p. p) result (program.program_in source.now tokens.now) }
+    requires few { length tokens.now ≤ MOST_TOKENS }
+    requires ends { EndsOnce tokens.now }
+    // Which tree it is, or which place.
+    ensures read { Answers ParseFault.Memory (result_map_both (λ p. p) ParseFault.Syntax (spec.program_in (words_of source.now tokens.now))) result }
+    // By the grammar: what is answered is derived, and what is derived is answered, unless memory runs out.
+    ensures derived { IfOk result (λ p. Derives p (words_of source.now tokens.now)) }
+    ensures only { (p : tree.Program) → Derives p (words_of source.now tokens.now) → Answers ParseFault.Memory (Ok p) result }
+    // A refusal's place; there is no tree then.
+    ensures place { (n : ℕ) → result ≡ Err (ParseFault.Syntax n) → IsPlace (words_of source.now tokens.now) n }
+    ensures refused { (n : ℕ) → result ≡ Err (ParseFault.Syntax n) → (p : tree.Program) → Derives p (words_of source.now tokens.now) → ⊥ }
+    ensures unambiguous { IsUnambiguous }
+    // The reader that the definitions of programs use reads exactly what the grammar derives, and else names the place.
+    ensures reads_grammar { (p : tree.Program) → (spec.program_in (words_of source.now tokens.now) ≡ Ok p) ↔ Derives p (words_of source.now tokens.now) }
+    ensures reads_place { (n : ℕ) → spec.program_in (words_of source.now tokens.now) ≡ Err n → IsPlace (words_of source.now tokens.now) n }
 {
     program_in(alloc, source, tokens.list())
 }

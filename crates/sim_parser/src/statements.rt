@@ -1,85 +1,97 @@
-//! Reads the statements that functions and the main procedure share.
+//! Statements, as functions and the main procedure share them.
+//!
+//! The rules take the reader of the statements inside as a parameter, so that each is proved by itself.
 
-ghost use Rattle.std.specs.Prelude.{◌≡◌, IfOk, List};
-ghost use Rattle.sim_parser.specs.ReadExpressions as expressions;
-ghost use Rattle.sim_parser.specs.ReadConditions as conditions;
-ghost use Rattle.sim_parser.specs.Read.{AreOf, Gives, Reader};
-ghost use Rattle.sim_parser.specs.Nests.{IsPart, Follows};
+ghost use Rattle.std.specs.Prelude.{◌≡◌, ℕ, List};
+ghost use Rattle.sim_parser.specs.ReadExpressions.{expression};
+ghost use Rattle.sim_parser.specs.ReadConditions as spec;
+ghost use Rattle.sim_parser.specs.Read as read;
+ghost use Rattle.sim_parser.specs.Read.{Reader, Reads};
+ghost use Rattle.sim_parser.specs.Nests.{IsCallable, Nests};
 ghost use Rattle.sim_syntax.specs.declared.statement.Stmt as stmt;
 
 use crate::conditions::condition;
-use crate::parts::{ParseFault, line_of, skip, starts};
-use sim_lexer::{Token, TokenKind, keyword, symbol};
+use crate::cursor::Cursor;
+use crate::halt::Halt;
+use crate::lists::each;
+use sim_lexer::{TokenKind, keyword, symbol};
 use sim_syntax::Stmt;
 use sqlite_items::Items;
 use std::alloc::Global;
 
-/// The statements behind `else`, where there are any.
-#[tactic(auto, unfolding(crate::specs::ReadConditions::otherwise, crate::specs::Read::skip))]
-fn otherwise<'a, B: Fn(&'a [Token]) -> Result<(Items<Stmt>, &'a [Token]), ParseFault>>(
-    alloc: Global,
-    source: &[u8],
-    body: &B,
-    tokens: &'a [Token],
-) -> Result<(Items<Stmt>, &'a [Token]), ParseFault>
-    requires tokens { AreOf source.now tokens.now }
-    requires body { IsPart source.now (B.pre body.now) (B.post body.now) }
-    ensures read { (reader : Reader (List stmt.Stmt)) → Follows source.now reader (B.post body.now) → Gives (λ x. (x.0, x.1.now)) result (conditions.otherwise source.now reader tokens.now) }
-    ensures sound { IfOk result (λ x. AreOf source.now x.1.now) }
-{
-    if starts(&[TokenKind::Keyword(keyword::ELSE)], tokens) {
-        let rest = skip(source, &[TokenKind::Keyword(keyword::ELSE)], tokens)?;
-        let (all, rest) = body(rest)?;
-        return Ok((all, rest));
+/// The rules of statements, over a reader of the statements inside.
+#[derive(Clone, Copy)]
+pub struct Statements<F> {
+    pub alloc: Global,
+    /// How deep statements and expressions may still be nested.
+    pub depth: usize,
+    pub inner: F,
+}
+
+impl<F: Fn(Global, &mut Cursor<'_>, usize) -> Result<Stmt, Halt>> Statements<F> {
+    /// A statement inside.
+    fn inner(&self, cursor: &mut Cursor<'_>) -> Result<Stmt, Halt>
+        requires { IsCallable self.now.depth (F.pre self.now.inner) }
+        ensures { (reader : ℕ → Reader stmt.Stmt) → Nests reader self.now.depth (F.pre self.now.inner) (F.post self.now.inner)
+            → Reads (reader self.now.depth cursor.old) result cursor.new }
+    {
+        (self.inner)(self.alloc, cursor, self.depth)
     }
-    Ok((Items::new(alloc), tokens))
-}
 
-/// A choice between statements.
-#[tactic(auto, unfolding(crate::specs::ReadConditions::if_stmt))]
-pub fn if_stmt<'a, B: Fn(&'a [Token]) -> Result<(Items<Stmt>, &'a [Token]), ParseFault>>(
-    alloc: Global,
-    source: &[u8],
-    room: usize,
-    body: B,
-    tokens: &'a [Token],
-) -> Result<(Stmt, &'a [Token]), ParseFault>
-    requires tokens { AreOf source.now tokens.now }
-    requires body { IsPart source.now (B.pre body) (B.post body) }
-    ensures read { (reader : Reader (List stmt.Stmt)) → Follows source.now reader (B.post body)
-        → Gives (λ x. (x.0, x.1.now)) result (conditions.if_stmt source.now (expressions.expression source.now room) reader tokens.now) }
-    ensures sound { IfOk result (λ x. AreOf source.now x.1.now) }
-{
-    let line = line_of(tokens);
-    let rest = skip(source, &[TokenKind::Keyword(keyword::IF)], tokens)?;
-    let (cond, rest) = condition(alloc, source, room, rest)?;
-    let (then_part, rest) = body(rest)?;
-    let (else_part, rest) = otherwise(alloc, source, &body, rest)?;
-    let rest = skip(source, &[TokenKind::Keyword(keyword::END)], rest)?;
-    let choice = Stmt::If {
-        line,
-        cond,
-        body: then_part,
-        otherwise: else_part,
-    };
-    Ok((choice, rest))
-}
+    /// Statements inside, as long as one of these kinds stands there.
+    pub fn body(&self, starts: &[TokenKind], cursor: &mut Cursor<'_>) -> Result<Items<Stmt>, Halt>
+        requires { IsCallable self.now.depth (F.pre self.now.inner) }
+        ensures { (reader : ℕ → Reader stmt.Stmt) → Nests reader self.now.depth (F.pre self.now.inner) (F.post self.now.inner)
+            → Reads (read.each starts.now (reader self.now.depth) cursor.old) result cursor.new }
+    {
+        let statement = |c: &mut Cursor<'_>| self.inner(c);
+        each(self.alloc, starts, statement, cursor)
+    }
 
-/// An assertion.
-#[tactic(auto, unfolding(crate::specs::ReadConditions::assert_stmt))]
-pub fn assert_stmt<'a>(
-    alloc: Global,
-    source: &[u8],
-    room: usize,
-    tokens: &'a [Token],
-) -> Result<(Stmt, &'a [Token]), ParseFault>
-    requires { AreOf source.now tokens.now }
-    ensures read { Gives (λ x. (x.0, x.1.now)) result (conditions.assert_stmt source.now (expressions.expression source.now room) tokens.now) }
-    ensures sound { IfOk result (λ x. AreOf source.now x.1.now) }
-{
-    let line = line_of(tokens);
-    let rest = skip(source, &[TokenKind::Keyword(keyword::ASSERT)], tokens)?;
-    let (cond, rest) = condition(alloc, source, room, rest)?;
-    let rest = skip(source, &[TokenKind::Symbol(symbol::SEMICOLON)], rest)?;
-    Ok((Stmt::Assert { line, cond }, rest))
+    /// The statements after `else`, where there are any.
+    #[tactic(auto, unfolding(crate::specs::ReadConditions::otherwise, crate::specs::Read::skip))]
+    fn otherwise(&self, starts: &[TokenKind], cursor: &mut Cursor<'_>) -> Result<Items<Stmt>, Halt>
+        requires { IsCallable self.now.depth (F.pre self.now.inner) }
+        ensures { (reader : ℕ → Reader stmt.Stmt) → Nests reader self.now.depth (F.pre self.now.inner) (F.post self.now.inner)
+            → Reads (spec.otherwise (read.each starts.now (reader self.now.depth)) cursor.old) result cursor.new }
+    {
+        if !cursor.is_at(TokenKind::Keyword(keyword::ELSE)) {
+            return Ok(Items::new(self.alloc));
+        }
+        cursor.skip(&[TokenKind::Keyword(keyword::ELSE)])?;
+        self.body(starts, cursor)
+    }
+
+    /// A choice between statements.
+    #[tactic(auto, unfolding(crate::specs::ReadConditions::if_stmt))]
+    pub fn if_stmt(&self, starts: &[TokenKind], cursor: &mut Cursor<'_>) -> Result<Stmt, Halt>
+        requires { IsCallable self.now.depth (F.pre self.now.inner) }
+        ensures { (reader : ℕ → Reader stmt.Stmt) → Nests reader self.now.depth (F.pre self.now.inner) (F.post self.now.inner)
+            → Reads (spec.if_stmt (expression self.now.depth) (read.each starts.now (reader self.now.depth)) cursor.old) result cursor.new }
+    {
+        let line = cursor.line();
+        cursor.skip(&[TokenKind::Keyword(keyword::IF)])?;
+        let cond = condition(self.alloc, cursor, self.depth)?;
+        let body = self.body(starts, cursor)?;
+        let otherwise = self.otherwise(starts, cursor)?;
+        cursor.skip(&[TokenKind::Keyword(keyword::END)])?;
+        Ok(Stmt::If {
+            line,
+            cond,
+            body,
+            otherwise,
+        })
+    }
+
+    /// An assertion.
+    #[tactic(auto, unfolding(crate::specs::ReadConditions::assert_stmt))]
+    pub fn assert_stmt(&self, cursor: &mut Cursor<'_>) -> Result<Stmt, Halt>
+        ensures { Reads (spec.assert_stmt (expression self.now.depth) cursor.old) result cursor.new }
+    {
+        let line = cursor.line();
+        cursor.skip(&[TokenKind::Keyword(keyword::ASSERT)])?;
+        let cond = condition(self.alloc, cursor, self.depth)?;
+        cursor.skip(&[TokenKind::Symbol(symbol::SEMICOLON)])?;
+        Ok(Stmt::Assert { line, cond })
+    }
 }

@@ -6,3 +6,4 @@ pub mod Texts
 pub mod Pieces
 pub mod WordsRead
 pub mod Endings
+mod Lines

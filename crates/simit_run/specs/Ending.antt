@@ -6,7 +6,10 @@ use Rattle.simit_io.specs.Inputs.{Files}
 use Rattle.simit_io.specs.Sink.{Puts, PutsPrefix, IsPrefixOf}
 use Rattle.simit_run.specs.Answer.{answer_of}
 use Rattle.simit_run.specs.Command.{Command, command_of, file_name}
+use Rattle.simit_run.specs.ProgramText.{offset_of}
 use Rattle.simit_run.specs.Stage.{limit_of}
+use Rattle.sim_lexer.specs.declared.token.LexFault.{LexFault}
+use Rattle.sim_lexer.specs.declared.token.LexFault.TheVariants as fault
 use Rattle.simit_run.specs.declared.role.FileRole.{FileRole}
 use Rattle.simit_run.specs.declared.role.FileRole.TheVariants as role
 use Rattle.simit_run.specs.declared.status.Status.{Status}
@@ -31,9 +34,9 @@ names_of (Some command) role = file_name command role
 abbrev pub refusal_status : Refusal → Status
 refusal_status refusal.Words = status.Refused
 refusal_status (refusal.FileLimit role) = status.Limit
-refusal_status (refusal.Lexical fault) = status.Refused
-refusal_status refusal.Syntax = status.Refused
-refusal_status refusal.Form = status.Refused
+refusal_status (refusal.Lexical line fault) = status.Refused
+refusal_status (refusal.Syntax line token) = status.Refused
+refusal_status refusal.NotYet = status.Refused
 refusal_status (refusal.FileCount files sets) = status.Refused
 refusal_status (refusal.Table number fault) = status.Refused
 
@@ -47,8 +50,8 @@ status_of (Refused refusal) = refusal_status refusal
 abbrev pub usage_note : List ℕ
 usage_note = codes "usage: simit run PROGRAM SETS..\n"
 
-abbrev pub program_note : List ℕ
-program_note = codes "refused: program\n"
+abbrev pub not_yet_note : List ℕ
+not_yet_note = codes "refused: not yet\n"
 
 abbrev pub memory_note : List ℕ
 memory_note = codes "no memory\n"
@@ -56,14 +59,26 @@ memory_note = codes "no memory\n"
 abbrev pub write_fault_note : List ℕ
 write_fault_note = codes "write fault\n"
 
+-- what is wrong at a byte of a program's text
+abbrev pub lexical_words : LexFault → List ℕ
+lexical_words (fault.BadByte at) = codes ": bad byte\n"
+lexical_words (fault.LongName at) = codes ": long name\n"
+lexical_words (fault.TooMany at) = codes ": too many tokens\n"
+lexical_words (fault.TooDeep at) = codes ": too deep\n"
+lexical_words fault.Memory = codes ": no memory\n"
+
+-- the note line of a place in a program's text: its line, and the byte or token
+abbrev pub place_note : ℕ → List ℕ → ℕ → List ℕ → List ℕ
+place_note line unit place words = concat (codes "refused: line " ∷ decimal line ∷ unit ∷ decimal place ∷ words ∷ [])
+
 -- the note line of a refusal, by the names of the files
 abbrev pub refusal_note : (FileRole → List ℕ) → Refusal → List ℕ
 refusal_note names refusal.Words = usage_note
 refusal_note names (refusal.FileLimit role) =
     concat (codes "limit: " ∷ names role ∷ codes " is over " ∷ decimal (limit_of role) ∷ codes " bytes\n" ∷ [])
-refusal_note names (refusal.Lexical fault) = program_note
-refusal_note names refusal.Syntax = program_note
-refusal_note names refusal.Form = program_note
+refusal_note names (refusal.Lexical line fault) = place_note line (codes ", byte ") (offset_of fault) (lexical_words fault)
+refusal_note names (refusal.Syntax line token) = place_note line (codes ", token ") token (codes ": syntax\n")
+refusal_note names refusal.NotYet = not_yet_note
 refusal_note names (refusal.FileCount files sets) =
     concat (codes "refused: " ∷ decimal files ∷ codes " files for " ∷ decimal sets ∷ codes " sets\n" ∷ [])
 refusal_note names (refusal.Table number fault) =

@@ -1,25 +1,39 @@
 -- Which program a text states.
-use Rattle.std.specs.Prelude.{ℕ, List, Result, Err, if◌then◌else◌}
+use Rattle.std.specs.Prelude.{ℕ, List, drop, Result}
 use Rattle.std.specs.Option.{ok_or}
 use Rattle.std.specs.Result.{result_map_both}
 use Rattle.vocabulary.specs.Answers.{◌>>=◌}
-use Rattle.sim_lexer.specs.Tokens.{tokens}
+use Rattle.sim_lexer.specs.Tokens.{line_at, tokens}
+use Rattle.sim_lexer.specs.Words.{Word, words_of}
 use Rattle.sim_lexer.specs.declared.token.LexFault.{LexFault}
+use Rattle.sim_lexer.specs.declared.token.LexFault.TheVariants as fault
 use Rattle.sim_parser.specs.ReadProgram.{program_in}
-use Rattle.program_forms.specs.Parentheses.{main_has_parentheses}
+use Rattle.sim_parser.specs.Rule.{line_of}
 use Rattle.program_forms.specs.Resolved.{resolved}
 use Rattle.global_algebra.specs.declared.program.Program.{Program}
 use Rattle.simit_run.specs.declared.failure.Refusal.{Refusal}
-use Rattle.simit_run.specs.declared.failure.Refusal.TheVariants.{Lexical, Syntax, Form}
+use Rattle.simit_run.specs.declared.failure.Refusal.TheVariants.{Lexical, Syntax, NotYet}
 
--- a lexical fault as a refusal
-abbrev pub lexical : {A : Type 0} → Result A LexFault → Result A Refusal
-lexical result = result_map_both (λ x. x) (λ fault. Lexical fault) result
+-- the offset that a lexical fault names
+abbrev pub offset_of : LexFault → ℕ
+offset_of (fault.BadByte at) = at
+offset_of (fault.LongName at) = at
+offset_of (fault.TooMany at) = at
+offset_of (fault.TooDeep at) = at
+offset_of fault.Memory = 0
 
--- the program that a text states, or the first reason why it states none: a lexical fault; tokens that derive no tree;
--- parentheses in its main procedure, or a tree of another form than those that run
+-- a lexical fault of a text as a refusal, with the line of the byte that it names
+abbrev pub lexical : {A : Type 0} → List ℕ → Result A LexFault → Result A Refusal
+lexical source result = result_map_both (λ x. x) (λ fault. Lexical (line_at source (offset_of fault)) fault) result
+
+-- the place where words stop being a cut of a program as a refusal, with the line of the word there
+abbrev pub syntactic : {A : Type 0} → List Word → Result A ℕ → Result A Refusal
+syntactic words result = result_map_both (λ x. x) (λ place. Syntax (line_of (drop place words)) place) result
+
+-- the program that a text states, or the first reason why it states none: a lexical fault; words that derive no tree; a tree of
+-- a form that doesn't run yet
 unfoldable pub program_of : List ℕ → Result Program Refusal
 program_of source = do
-  ts ← lexical (tokens source)
-  tree ← ok_or (program_in source ts) Syntax
-  if main_has_parentheses ts then Err Form else ok_or (resolved tree) Form
+  ts ← lexical source (tokens source)
+  tree ← syntactic (words_of source ts) (program_in (words_of source ts))
+  ok_or (resolved tree) NotYet

@@ -11,12 +11,12 @@ pub enum Refusal {
     Words,
     /// The file has too many bytes.
     FileLimit(FileRole),
-    /// The program's text can't be cut into tokens.
-    Lexical(LexFault),
-    /// The program's tokens derive no tree.
-    Syntax,
-    /// The program is of another form than those that run.
-    Form,
+    /// The program's text can't be cut into tokens: the line of the byte that the fault names.
+    Lexical { line: u32, fault: LexFault },
+    /// The program's tokens derive no tree: the index of the first that can't go on, and its line.
+    Syntax { line: u32, token: u32 },
+    /// The program is of a form that doesn't run yet.
+    NotYet,
     /// There are so many tables for another number of sets.
     FileCount { files: usize, sets: usize },
     /// The table of the set of this number states no set.

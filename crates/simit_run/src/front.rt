@@ -1,12 +1,14 @@
 //! From the program's file to the program: its tokens, the tree that they derive, and the program that the tree
 //! states.
 
-ghost use Rattle.std.specs.Prelude.{◌≡◌, ◌≤◌, All, IfOk, length};
+ghost use Rattle.std.specs.Prelude.{◌≡◌, ◌≤◌, All, IfOk, drop, length};
 ghost use Rattle.std.specs.Option.{ok_or};
 ghost use Rattle.vocabulary.specs.Answers.{Answers};
 ghost use Rattle.simit_io.specs.Inputs.{IsMissing, Rose};
-ghost use Rattle.sim_lexer.specs.Tokens.{IsSpelled, LiesIn, tokens};
+ghost use Rattle.sim_lexer.specs.Tokens.{EndsOnce, IsSpelled, LiesIn, tokens};
+ghost use Rattle.sim_lexer.specs.Words.{words_of};
 ghost use Rattle.sim_parser.specs.ReadProgram.{program_in};
+ghost use Rattle.sim_parser.specs.Rule.{line_of};
 ghost use Rattle.program_forms.specs.Resolved.{resolved};
 ghost use Rattle.simit_run.specs.Answer as spec;
 ghost use Rattle.simit_run.specs.ProgramText as text;
@@ -16,26 +18,42 @@ ghost use Rattle.simit_run.specs.TableContracts.{IsRunnable};
 
 use crate::failure::{Failure, Refusal};
 use crate::file::read_file;
+use crate::note::offset_of;
 use crate::role::FileRole;
 use global_algebra::Program;
-use program_forms::{ResolveFault, main_has_parentheses, resolve};
-use sim_lexer::{LexFault, Tokens, lex};
+use program_forms::{ResolveFault, resolve};
+use sim_lexer::{LexFault, Token, Tokens, lex, line_at};
 use sim_parser::{ParseFault, parse};
 use simit_io::Inputs;
 use std::alloc::Global;
-use vocabulary::limits::MOST_PROGRAM_BYTES;
+use vocabulary::limits::{MOST_PROGRAM_BYTES, MOST_TOKENS};
+
+/// The line of the token of an index.
+fn line_of(source: &[u8], tokens: &[Token], token: u32) -> u32
+    ensures { result ≡ line_of (drop token (words_of source.now tokens.now)) }
+{
+    match tokens.get(token as usize) {
+        Some(token) => token.line,
+        None => 0,
+    }
+}
 
 /// The tokens of a text.
 fn tokens_of(alloc: Global, source: &[u8]) -> Result<Tokens, Failure>
     requires { length source.now ≤ MOST_PROGRAM_BYTES }
-    ensures value { Answers Failure.Memory (refused (text.lexical (tokens source.now))) result }
+    ensures value { Answers Failure.Memory (refused (text.lexical source.now (tokens source.now))) result }
     ensures lie { IfOk result (λ tokens. All (LiesIn source.now) tokens) }
     ensures spell { IfOk result (λ tokens. All (IsSpelled source.now) tokens) }
+    ensures few { IfOk result (λ tokens. length tokens ≤ MOST_TOKENS) }
+    ensures ends { IfOk result EndsOnce }
 {
     match lex(alloc, source) {
         Ok(tokens) => Ok(tokens),
         Err(LexFault::Memory) => Err(Failure::Memory),
-        Err(fault) => Err(Failure::Refused(Refusal::Lexical(fault))),
+        Err(fault) => {
+            let line = line_at(source, offset_of(fault));
+            Err(Failure::Refused(Refusal::Lexical { line, fault }))
+        }
     }
 }
 
@@ -43,25 +61,30 @@ fn tokens_of(alloc: Global, source: &[u8]) -> Result<Tokens, Failure>
 fn tree_of(alloc: Global, source: &[u8], tokens: &Tokens) -> Result<sim_syntax::Program, Failure>
     requires lie { All (LiesIn source.now) tokens.now }
     requires spell { All (IsSpelled source.now) tokens.now }
-    ensures { Answers Failure.Memory (refused (ok_or (program_in source.now tokens.now) Refusal.Syntax)) result }
+    requires few { length tokens.now ≤ MOST_TOKENS }
+    requires ends { EndsOnce tokens.now }
+    ensures { Answers Failure.Memory (refused (text.syntactic (words_of source.now tokens.now) (program_in (words_of source.now tokens.now)))) result }
 {
     match parse(alloc, source, tokens) {
         Ok(tree) => Ok(tree),
         Err(ParseFault::Memory) => Err(Failure::Memory),
-        Err(ParseFault::Syntax) => Err(Failure::Refused(Refusal::Syntax)),
+        Err(ParseFault::Syntax { token }) => {
+            let line = line_of(source, tokens.list(), token);
+            Err(Failure::Refused(Refusal::Syntax { line, token }))
+        }
     }
 }
 
 /// The program that a tree states.
 #[tactic(auto, using(crate::proofs::Runnable::is_runnable))]
 fn resolved_of(alloc: Global, tree: &sim_syntax::Program) -> Result<Program, Failure>
-    ensures value { Answers Failure.Memory (refused (ok_or (resolved tree.now) Refusal.Form)) result }
+    ensures value { Answers Failure.Memory (refused (ok_or (resolved tree.now) Refusal.NotYet)) result }
     ensures runnable { IfOk result IsRunnable }
 {
     match resolve(alloc, tree) {
         Ok(program) => Ok(program),
         Err(ResolveFault::Memory) => Err(Failure::Memory),
-        Err(ResolveFault::OtherForm) => Err(Failure::Refused(Refusal::Form)),
+        Err(ResolveFault::OtherForm) => Err(Failure::Refused(Refusal::NotYet)),
     }
 }
 
@@ -74,9 +97,6 @@ fn program_of(alloc: Global, source: &[u8]) -> Result<Program, Failure>
 {
     let tokens = tokens_of(alloc, source)?;
     let tree = tree_of(alloc, source, &tokens)?;
-    if main_has_parentheses(tokens.list()) {
-        return Err(Failure::Refused(Refusal::Form));
-    }
     let program = resolved_of(alloc, &tree)?;
     Ok(program)
 }

@@ -4,7 +4,8 @@ ghost use Rattle.std.specs.Prelude.{◌≡◌, ◌≤◌, [], ◌∷◌, map, co
 ghost use Rattle.std.specs.List.{concat};
 ghost use Rattle.simit_io.specs.Inputs.{Rose};
 ghost use Rattle.simit_run.specs.Command.{file_name};
-ghost use Rattle.simit_run.specs.Ending.{PutsNote, memory_note, note_of, program_note, refusal_note, usage_note, write_fault_note};
+ghost use Rattle.simit_run.specs.Ending.{PutsNote, lexical_words, memory_note, note_of, place_note, refusal_note, usage_note, write_fault_note};
+ghost use Rattle.simit_run.specs.ProgramText.{offset_of};
 ghost use Rattle.simit_run.specs.Shown.{shown};
 ghost use Rattle.simit_run.specs.Stage as stage;
 
@@ -13,6 +14,7 @@ use crate::failure::{Failure, Refusal};
 use crate::file::limit_of;
 use crate::role::FileRole;
 use itoa::Buffer;
+use sim_lexer::LexFault;
 use simit_io::{Sink, put_all, putting_law};
 
 /// Puts pieces one after another, up to the first that the sink doesn't take whole.
@@ -79,6 +81,49 @@ fn put_file_count<N: Sink>(notes: &mut N, files: usize, sets: usize)
     );
 }
 
+/// Puts the line of a place in a program's text: its line, and the byte or token.
+fn put_place<'a, N: Sink>(notes: &mut N, line: u32, unit: &'a str, place: u32, words: &'a str)
+    ensures note { PutsNote (N.written notes.old) (N.written notes.new) (Rose (N.faults notes.old) (N.faults notes.new)) (place_note line unit.now place words.now) }
+    ensures counted { N.faults notes.old ≤ N.faults notes.new }
+{
+    let mut of_line = Buffer::new();
+    let mut of_place = Buffer::new();
+    put_five(
+        notes,
+        "refused: line ",
+        of_line.format(line),
+        unit,
+        of_place.format(place),
+        words,
+    );
+}
+
+/// The offset that a lexical fault names.
+pub fn offset_of(fault: LexFault) -> u32
+    ensures { result ≡ offset_of fault }
+{
+    match fault {
+        LexFault::BadByte { at }
+        | LexFault::LongName { at }
+        | LexFault::TooMany { at }
+        | LexFault::TooDeep { at } => at,
+        LexFault::Memory => 0,
+    }
+}
+
+/// What is wrong at a byte of a program's text.
+fn lexical_words(fault: LexFault) -> &'static str
+    ensures { result.now ≡ lexical_words fault }
+{
+    match fault {
+        LexFault::BadByte { .. } => ": bad byte\n",
+        LexFault::LongName { .. } => ": long name\n",
+        LexFault::TooMany { .. } => ": too many tokens\n",
+        LexFault::TooDeep { .. } => ": too deep\n",
+        LexFault::Memory => ": no memory\n",
+    }
+}
+
 /// Puts the line of words that are no command.
 pub fn put_usage<N: Sink>(notes: &mut N)
     ensures note { PutsNote (N.written notes.old) (N.written notes.new) (Rose (N.faults notes.old) (N.faults notes.new)) usage_note }
@@ -95,9 +140,17 @@ fn put_refusal<N: Sink>(notes: &mut N, command: Command<'_>, refusal: Refusal)
     match refusal {
         Refusal::Words => put_usage(notes),
         Refusal::FileLimit(role) => put_limit(notes, command.file_name(role), role),
-        Refusal::Lexical(_) | Refusal::Syntax | Refusal::Form => {
-            put_pieces(notes, &["refused: program\n"]);
+        Refusal::Lexical { line, fault } => put_place(
+            notes,
+            line,
+            ", byte ",
+            offset_of(fault),
+            lexical_words(fault),
+        ),
+        Refusal::Syntax { line, token } => {
+            put_place(notes, line, ", token ", token, ": syntax\n");
         }
+        Refusal::NotYet => put_pieces(notes, &["refused: not yet\n"]),
         Refusal::FileCount { files, sets } => put_file_count(notes, files, sets),
         Refusal::Table { set, fault: _ } => put_three(
             notes,

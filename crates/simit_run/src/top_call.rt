@@ -20,9 +20,9 @@ fn refusal_status(refusal: Refusal) -> Status
     match refusal {
         Refusal::FileLimit(_) => Status::Limit,
         Refusal::Words
-        | Refusal::Lexical(_)
-        | Refusal::Syntax
-        | Refusal::Form
+        | Refusal::Lexical { .. }
+        | Refusal::Syntax { .. }
+        | Refusal::NotYet
         | Refusal::FileCount { .. }
         | Refusal::Table { .. } => Status::Refused,
     }

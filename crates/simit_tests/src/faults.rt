@@ -1,6 +1,7 @@
 //! Faults of the inputs and of the sinks: each call that fails in turn, and that none follows it or a refusal.
 use crate::calls::{Call, End, assert_end, done, ended, files_of, refused};
 use crate::fixtures::{HEAD, POINTS, PULL, PULLED, SPRINGS};
+use crate::worked::BROKEN_OFF;
 use simit_run::Status;
 use std::alloc::{AllocError, Global};
 use std::process::Abort;
@@ -120,7 +121,7 @@ fn assert_note_is_cut_off(
     Ok(())
 }
 
-/// A program that is refused: it names a field of no set.
+/// A program that is refused: it assigns what is no field.
 const REFUSED: &[u8] =
     b"element Point x: int(0); end extern points: set{Point}; proc main x = x; end";
 
@@ -135,18 +136,22 @@ fn nothing_is_read_after_a_refusal_and_each_put_of_its_note_fails(
     let (program, points) = (program.as_bytes(), POINTS.as_bytes());
     let no_words = refused("usage: simit run PROGRAM SETS..\n");
     let no_file = ended(Status::ReadFault, "read fault: none\n");
-    let no_program = refused("refused: program\n");
+    let no_program = refused("refused: not yet\n");
+    let no_tree = refused("refused: line 5, token 25: syntax\n");
     let no_tables = refused("refused: 1 files for 2 sets\n");
     let no_set = refused("refused: points.csv: table\n");
     // The calls that each file needs, and so the number of the first after them.
     let of_program = calls_for(program, 4096);
     let of_refused = calls_for(REFUSED, 4096);
+    let broken_off = BROKEN_OFF.as_bytes();
+    let of_broken = calls_for(broken_off, 4096);
     let of_short = of_program.saturating_add(calls_for(SHORT, 4096));
     let of_points = of_program.saturating_add(calls_for(points, 4096));
     let of_missing = of_points.saturating_add(1);
-    let cases: [(&[&str], &[u8], &[u8], u64, End<'_>); 6] = [
+    let cases: [(&[&str], &[u8], &[u8], u64, End<'_>); 7] = [
         (&WORDS[..1], program, points, 0, no_words),
         (&["run", "none", "points.csv"], program, points, 1, no_file),
+        (&WORDS, broken_off, points, of_broken, no_tree),
         (&WORDS, REFUSED, points, of_refused, no_program),
         (&WORDS[..3], program, points, of_program, no_tables),
         (&WORDS, program, SHORT, of_short, no_set),

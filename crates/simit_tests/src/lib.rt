@@ -20,6 +20,8 @@ mod limits;
 #[cfg(test)]
 mod parsing;
 #[cfg(test)]
+mod places;
+#[cfg(test)]
 mod programs;
 #[cfg(test)]
 mod reading;
@@ -31,3 +33,5 @@ mod springs;
 mod tables;
 #[cfg(test)]
 mod words;
+#[cfg(test)]
+mod worked;

@@ -13,13 +13,35 @@ fn at_most_1048576_bytes_of_a_program(rt: HostRuntime) -> Result<(), Fail> {
     for (text, size, end) in [
         (PROGRAM, 1_048_576, done("set points\nx\n1\n")),
         (PROGRAM, 1_048_577, limit),
-        (b"", 1_048_576, refused("refused: program\n")),
+        (
+            b"",
+            1_048_576,
+            refused("refused: line 1, token 0: syntax\n"),
+        ),
         (b"", 1_048_577, limit),
         (b"", 3_000_000, limit),
     ] {
         let mut program = text.to_vec(rt.alloc())?;
         program.resize(size, b'%')?;
         assert_over_points(&rt, "a filled program", &program, b"x\n1\n", end)?;
+    }
+    Ok(())
+}
+
+#[test]
+fn at_most_65536_tokens(rt: HostRuntime) -> Result<(), Fail> {
+    let too_many = refused("refused: line 1, byte 65550: too many tokens\n");
+    for (after, end) in [
+        ("end", refused("refused: not yet\n")),
+        ("end  end", too_many),
+        (
+            "end  end?",
+            refused("refused: line 1, byte 65550: bad byte\n"),
+        ),
+    ] {
+        let statements = "a=b;".repeat(rt.alloc(), 16_383)?;
+        let program = format!(in rt.alloc(); "proc main {statements}{after}")?;
+        assert_over_points(&rt, after, program.as_bytes(), b"x\n1\n", end)?;
     }
     Ok(())
 }

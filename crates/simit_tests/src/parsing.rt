@@ -1,8 +1,8 @@
-//! The trees of worked texts, and texts that have none.
-use crate::fixtures::{Reading, assert_reading};
+//! The trees of worked texts.
+use crate::worked::{FORMS, GRADIENTS};
 use sim_lexer::lex;
 use sim_parser::parse;
-use sim_syntax::{Expr, ProductFactor, Program, Right, Row, Stmt, SumTerm};
+use sim_syntax::{Expr, Lowered, ProductFactor, Program, Right, Row, Stmt, SumTerm};
 use std::alloc::AllocError;
 use std::process::Abort;
 use std::test::Fail;
@@ -194,88 +194,53 @@ fn statements_and_their_lines(rt: HostRuntime) -> Result<(), Fail> {
     Ok(())
 }
 
-static NO_PROGRAMS: [&str; 24] = [
-    "",
-    "% a comment alone",
-    "x,f\n1,2\n",
-    "proc main",
-    "proc other end",
-    "proc main end end",
-    "proc main end x",
-    "proc main end proc main end",
-    "element P x : int(0) end proc main end",
-    "element P x : int(0.5); y int(0); end proc main end",
-    "element P x : int(0); extern points : set{P}; proc main end",
-    "element x : int(0); end proc main end",
-    "extern s : set{}; proc main end",
-    "extern s : set{P}(); proc main end",
-    "extern s : set{P} proc main end",
-    "func f() -> (r : vector[s](int(0))) end proc main end",
-    "func f(e : P) -> (r : vector[s](int(0))) r(e,e,e) = 1; end proc main end",
-    "func f(e : P) -> (r : vector[s](int(0))) while 1 < 2 end end proc main end",
-    "func f(e : P) -> (r : vector[s](int(0))) var a, b = 1; end proc main end",
-    "proc main end func f(e : P) -> (r : vector[s](int(0))) end",
-    "a = 1;",
-    "proc main if a b = 1; end end",
-    "proc main if a < b < c end end",
-    "proc main for i in 0 50 end end",
-];
-
-static NO_FIELDS: [&str; 8] = [
-    "x: int(-0);",
-    "x: int;",
-    "x int(0);",
-    "x: Point;",
-    "x, f: int(0);",
-    "1: int(0);",
-    "by: int(0);",
-    "x: int(0); f",
-];
-
-static NO_STATEMENTS: [&str; 31] = [
-    "a = 1",
-    "a = ;",
-    "a = 1 + ;",
-    "a = --1;",
-    "a = -;",
-    "a = +1;",
-    "a = 1 + -b;",
-    "a = 1 b;",
-    "a = 1, b;",
-    "a = (1;",
-    "a = b'';",
-    "a = b();",
-    "a = 2*-b;",
-    "a = b.*;",
-    "a = .5*b;",
-    "a = [1,2;];",
-    "a, b = 1;",
-    "a.b.c = 1;",
-    "a(0) = 1;",
-    "(a) = 1;",
-    "a = b = 1;",
-    "a = b;;",
-    ";",
-    "proc main",
-    "a = b; end a = b;",
-    "a = map f to s reduce max;",
-    "a = map f() to s reduce +;",
-    "a = -map f to s reduce +;",
-    "a = ix (i,j,k) 1;",
-    "a = ix i b(i);",
-    "var = 1;",
-];
-
 #[test]
-fn texts_without_trees(rt: HostRuntime) -> Result<(), Fail> {
-    let none = Reading::NoTree;
-    assert_reading(&rt, none, ["", ""], &NO_PROGRAMS, ["", ""])?;
-    assert_reading(
-        &rt,
-        none,
-        ["element P ", ""],
-        &NO_FIELDS,
-        [" end", " proc main end"],
-    )?;
-    assert_reading(&rt, none, ["proc main ", ""], &NO_STATEMENTS, [" end", ""])
+fn programs_without_index_expressions(rt: HostRuntime) -> Result<(), Fail> {
+    match Lowered::of(tree(&rt, GRADIENTS.as_bytes())?) {
+        Ok(lowered) => assert_eq!(rt; lowered.program().body.len(), 9),
+        Err(_) => return Err(Fail::new("an index expression")),
+    }
+    match Lowered::of(tree(&rt, FORMS.as_bytes())?) {
+        Ok(_) => Err(Fail::new("no index expression")),
+        Err(program) => {
+            assert_eq!(rt; program.body.len(), 3);
+            Ok(())
+        }
+    }
+}
+
+/// The most tokens that a text has, of which two stand before its statements and two after them.
+#[test]
+fn a_program_of_65536_tokens(rt: HostRuntime) -> Result<(), Fail> {
+    let alloc = rt.alloc();
+    let mut text = String::from_str(alloc, "proc main ")?;
+    for _ in 0..16_383 {
+        text.push_str("a=b;")?;
+    }
+    text.push_str("end")?;
+    assert_eq!(rt; tree(&rt, text.as_bytes())?.body.len(), 16_383);
+    Ok(())
+}
+
+/// The most levels that are open at once, in each place where one opens.
+#[test]
+fn levels_to_the_depth_of_64(rt: HostRuntime) -> Result<(), Fail> {
+    let alloc = rt.alloc();
+    for (open, close) in [
+        ("(", ")"),
+        ("[", "]"),
+        ("a(", ")"),
+        ("-(", ")"),
+        ("(1+", ")"),
+    ] {
+        let opened = open.repeat(alloc, 64)?;
+        let closed = close.repeat(alloc, 64)?;
+        let text = format!(in alloc; "proc main a = {opened}1{closed}; end")?;
+        assert_eq!(rt; tree(&rt, text.as_bytes())?.body.len(), 1, "in {open}");
+    }
+    let opened = "while 1<2 if 1<2 for i in 0:1 ".repeat(alloc, 21)?;
+    let closed = "end end end ".repeat(alloc, 21)?;
+    let text = format!(in alloc; "proc main {opened}a = (1); {closed} end")?;
+    assert_eq!(rt; tree(&rt, text.as_bytes())?.body.len(), 1);
+    Ok(())
 }

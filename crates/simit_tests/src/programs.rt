@@ -88,21 +88,63 @@ fn one_program_in_many_layouts(rt: HostRuntime) -> Result<(), Fail> {
     Ok(())
 }
 
-/// Programs that are refused: with a byte that begins no token, without a tree, with a tree of another form, and with
-/// parentheses in the main procedure, which no tree shows.
-static REFUSED: [&[u8]; 5] = [
-    b"element P x: int(0); end extern s: set{P}; proc main s.x = s.x? end",
-    b"element P x: int(0); end extern s: set{P}; proc main s.x = s.x end",
-    b"element P x: int(0); end extern s: set{P}; proc main s.x = 5; end",
-    b"element P x: int(0); end extern s: set{P}; proc main s.x = (s.x); end",
-    b"element P x: int(0); end extern s: set{P}; proc main s.x = s.x - 2*(s.x); end",
+/// Programs that are refused, with their notes: bytes that begin no token, a name that is too long, brackets that are too
+/// deep; tokens without a tree; and trees of forms that don't run yet.
+static REFUSED: [(&[u8], &str); 9] = [
+    (
+        b"element P x: int(0); end extern s: set{P}; proc main s.x = s.x? end",
+        "refused: line 1, byte 62: bad byte\n",
+    ),
+    (
+        b"element P\n\tx: int(0);\r\nend $",
+        "refused: line 3, byte 27: bad byte\n",
+    ),
+    (
+        b"%\n%\n a234567890123456789012345678901234567890123456789012345678901234_",
+        "refused: line 3, byte 5: long name\n",
+    ),
+    (
+        b"\n((((((((((((((((((((((((((((((((\n(((((((((((((((((((((((((((((((((\n",
+        "refused: line 3, byte 66: too deep\n",
+    ),
+    (
+        b"element P x: int(0); end extern s: set{P}; proc main s.x = s.x end",
+        "refused: line 1, token 27: syntax\n",
+    ),
+    (
+        b"element P\n  x : int(0);\nend\n\nproc main\n  P.x = ;\nend\n",
+        "refused: line 6, token 16: syntax\n",
+    ),
+    (b"\n\nproc main\n", "refused: line 4, token 2: syntax\n"),
+    (
+        b"element P x: int(0); end extern s: set{P}; proc main s.x = 5; end",
+        "refused: not yet\n",
+    ),
+    (
+        b"element P x: int(0); end extern s: set{P}; proc main s.x = 2*(s.x + s.x); end",
+        "refused: not yet\n",
+    ),
 ];
 
 #[test]
 fn programs_are_refused(rt: HostRuntime) -> Result<(), Fail> {
-    for text in &REFUSED {
-        let end = refused("refused: program\n");
-        assert_over_points(&rt, "a refused program", text, b"x\n1\n", end)?;
+    for (text, note) in &REFUSED {
+        assert_over_points(&rt, note, text, b"x\n1\n", refused(note))?;
+    }
+    Ok(())
+}
+
+/// Parentheses leave nothing in a tree.
+static PARENTHESISED: [&[u8]; 3] = [
+    b"element P x: int(0); end extern s: set{P}; proc main s.x = (s.x); end",
+    b"element P x: int(0); end extern s: set{P}; proc main s.x = 2*(s.x) - (s.x); end",
+    b"element P x: int(0); end extern s: set{P}; proc main s.x = (-(((3*s.x))) + 4*s.x); end",
+];
+
+#[test]
+fn parentheses_in_sums(rt: HostRuntime) -> Result<(), Fail> {
+    for text in &PARENTHESISED {
+        assert_over_points(&rt, "parentheses", text, b"x\n7\n", done("set s\nx\n7\n"))?;
     }
     Ok(())
 }

@@ -90,7 +90,7 @@ static WORDS: [(&[&str], Status, &str); 28] = [
     (
         &["run", "points.csv", "points.csv"],
         Status::Refused,
-        "refused: program\n",
+        "refused: line 1, token 0: syntax\n",
     ),
 ];
 

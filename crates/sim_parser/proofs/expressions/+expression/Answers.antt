@@ -1,17 +1,12 @@
 use Rattle.std.proofs.Common.{rules, arith}
 use Rattle.std.proofs.lemmas.Grind.{common_steps}
-use Rattle.sim_parser.proofs.Rooms.{expression_none, expression_inside}
+use Rattle.sim_parser.proofs.Nesting.{expression-none, expression-inside}
 use Rattle.sim_parser.proofs.expressions.+expression.Goals as goal
 
-pub returns-then-room-eq0-clause-read : goal.returns-then-room-eq0-clause-read
-returns-then-room-eq0-clause-read t c = expression_none c.args.source.now c.args.room c.args.tokens.now (omega arith)
+pub returns-then-depth-eq0 : goal.returns-then-depth-eq0
+returns-then-depth-eq0 t c = expression-none c.args.depth c.args.cursor.now (omega arith)
 
-pub returns-in_err-value-clause-read : goal.returns-in_err-value-clause-read
-returns-in_err-value-clause-read t c =
-    let inside = expression_inside c.args.source.now c.args.room c.args.tokens.now (omega arith) in
-    rw inside (first_of (search rules, grind (arith, common_steps)))
-
-pub returns-clause-read : goal.returns-clause-read
-returns-clause-read t c =
-    let inside = expression_inside c.args.source.now c.args.room c.args.tokens.now (omega arith) in
+pub returns : goal.returns
+returns t c =
+    let inside = expression-inside c.args.depth c.args.cursor.now (omega arith) in
     rw inside (first_of (search rules, grind (arith, common_steps)))

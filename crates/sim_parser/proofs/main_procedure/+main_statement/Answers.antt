@@ -1,17 +1,12 @@
 use Rattle.std.proofs.Common.{rules, arith}
 use Rattle.std.proofs.lemmas.Grind.{common_steps}
-use Rattle.sim_parser.proofs.Rooms.{main_statement_none, main_statement_inside}
+use Rattle.sim_parser.proofs.Nesting.{main_statement-none, main_statement-inside}
 use Rattle.sim_parser.proofs.main_procedure.+main_statement.Goals as goal
 
-pub returns-then-room-eq0-clause-read : goal.returns-then-room-eq0-clause-read
-returns-then-room-eq0-clause-read t c = main_statement_none c.args.source.now c.args.room c.args.tokens.now (omega arith)
+pub returns-then-depth-eq0 : goal.returns-then-depth-eq0
+returns-then-depth-eq0 t c = main_statement-none c.args.depth c.args.cursor.now (omega arith)
 
-pub returns-in_err-stmt-clause-read : goal.returns-in_err-stmt-clause-read
-returns-in_err-stmt-clause-read t c =
-    let inside = main_statement_inside c.args.source.now c.args.room c.args.tokens.now (omega arith) in
-    rw inside (first_of (search rules, grind (arith, common_steps)))
-
-pub returns-clause-read : goal.returns-clause-read
-returns-clause-read t c =
-    let inside = main_statement_inside c.args.source.now c.args.room c.args.tokens.now (omega arith) in
+pub returns : goal.returns
+returns t c =
+    let inside = main_statement-inside c.args.depth c.args.cursor.now (omega arith) in
     rw inside (first_of (search rules, grind (arith, common_steps)))
