@@ -22,6 +22,8 @@ mod parsing;
 #[cfg(test)]
 mod places;
 #[cfg(test)]
+mod printing;
+#[cfg(test)]
 mod programs;
 #[cfg(test)]
 mod reading;

@@ -1,0 +1,15 @@
+pub mod Balance
+pub mod Equations
+pub mod Growing
+pub mod Including
+pub mod Keeping
+pub mod KeptConditions
+pub mod KeptDeclarations
+pub mod KeptExpressions
+pub mod KeptStatements
+pub mod KeptSums
+pub mod Levels
+pub mod Lightness
+pub mod Parts
+pub mod ReadingBack
+pub mod Rows

@@ -1,0 +1,9 @@
+use Rattle.sim_lexer.specs.declared.token.symbol.TheConstants as sym_of
+use Rattle.sim_parser.specs.Rule as rule
+use Rattle.sim_printer.specs.Printed as spec
+use Rattle.sim_printer.proofs.Parts.{SoFar}
+use Rattle.sim_printer.proofs.right_sides.names.Given as goal
+
+-- those so far are printed
+abbrev pub invariant-loop-one : goal.invariant-loop-one
+invariant-loop-one l = SoFar (spec.separated (rule.sym sym_of.COMMA) spec.name) l.initial.line l.line l.all l.one-index l.is_first
