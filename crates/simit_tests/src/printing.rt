@@ -30,8 +30,15 @@ fn spread(rt: &(impl Abort + AllocGlobal), text: &[u8]) -> Result<Vec<u8>, Fail>
 }
 
 /// Statements of the main procedure, and how they are printed.
-static STATEMENTS: [(&str, &str); 22] = [
+static STATEMENTS: [(&str, &str); 26] = [
     ("v=1+2*3;", "v = 1 + 2 * 3 ;"),
+    ("v=-a-b';", "v = - a - b ' ;"),
+    ("v=a-b-c;", "v = a - b - c ;"),
+    ("v=2*3*k;", "v = 2 * 3 * k ;"),
+    (
+        "v=isqrt(dot(r,q),2)';",
+        "v = isqrt ( dot ( r , q ) , 2 ) ' ;",
+    ),
     ("v=((x));", "v = x ;"),
     ("v=-(x);", "v = - x ;"),
     ("v=-(a*b);", "v = - a * b ;"),
