@@ -1,3 +1,5 @@
+pub mod Decimals
+pub mod DigitValues
 pub mod Lengths
 pub mod ReadsBack
 pub mod Splits

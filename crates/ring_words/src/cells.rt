@@ -1,19 +1,20 @@
 //! The cells of tables: a word's text is written, and the word that a text stands for is read.
 //!
-//! A cell of scale d counts units of 1/10^d. These calls serve whole numbers, of scale 0.
-ghost use Rattle.std.specs.Prelude.{◌≡◌, ◌+◌, ◌-◌, ◌^◌, ◌<◌, ◌≤◌, not, nat_lt, length, take, vec_len, vec_capacity};
+//! A cell of scale d counts units of 1/10^d.
+ghost use Rattle.std.specs.Prelude.{◌≡◌, ℕ, ◌+◌, ◌-◌, ◌^◌, ◌<◌, ◌≤◌, not, nat_lt, length, take, vec_len, vec_capacity};
 ghost use Rattle.std.specs.Bool.{OnTrue};
 ghost use Rattle.std.specs.List.{prefix_len, suffix_len};
-ghost use Rattle.std.specs.Str.Parse.{digits_value};
 ghost use Rattle.ring_words.specs.Cell as spec;
 ghost use Rattle.vocabulary.specs.Buffer.{Appends};
 
 use crate::arithmetic::neg;
-use crate::digits::{all_zeros, digit_count, leading_digits};
+use crate::digits::{digit_count, leading_decimals, leading_digits, with_zeros};
+use crate::powers::power_of_ten;
 use itoa::Buffer;
 use thiserror::Error;
 use vocabulary::append;
-use vocabulary::marks::{MINUS, POINT, SPACE};
+use vocabulary::limits::MOST_FIELD_SCALE;
+use vocabulary::marks::{MINUS, POINT, SPACE, ZERO};
 
 /// Why a cell's text stands for no word, in the order in which the causes are judged.
 #[derive(Clone, Copy, Debug, PartialEq, Eq, Error)]
@@ -69,7 +70,7 @@ fn without_trailing_spaces(bytes: &[u8]) -> &[u8]
 #[inline]
 #[tactic(auto, unfolding(crate::specs::Cell::cell))]
 pub fn read_cell(d: u32, bytes: &[u8]) -> Result<u64, CellFault>
-    requires scale { d ≡ 0 }
+    requires scale { d ≤ MOST_FIELD_SCALE }
     requires short { length bytes.now < 2 ^ 32 }
     ensures { result ≡ spec.cell d bytes.now }
 {
@@ -77,7 +78,7 @@ pub fn read_cell(d: u32, bytes: &[u8]) -> Result<u64, CellFault>
     if rest.is_empty() {
         return Err(CellFault::Empty);
     }
-    let parts = split_cell(rest);
+    let parts = split_cell(d, rest);
     if !parts.complete || parts.size != rest.len() {
         let offset = leading_spaces(bytes) + parts.size;
         return Err(CellFault::BadByte { at: offset as u32 });
@@ -87,25 +88,26 @@ pub fn read_cell(d: u32, bytes: &[u8]) -> Result<u64, CellFault>
 
 /// The parts that can be read from the start of a text.
 #[derive(Clone, Copy)]
-struct Parts<'a> {
+struct Parts {
     negative: bool,
-    /// The number before the point, cut down where it is too large either way.
-    whole: u64,
-    /// The digits after the point.
-    decimals: &'a [u8],
+    /// How many units of the scale the digits count, cut down where that is too large either way.
+    units: u64,
+    /// Whether a decimal past the scale isn't 0.
+    too_fine: bool,
     /// How many bytes the parts take.
     size: usize,
     /// Whether a number can end there.
     complete: bool,
 }
 
-/// A text split into its parts.
+/// A text of scale `d` split into its parts.
 #[inline(always)]
 #[tactic(auto, unfolding(crate::specs::Cell::parts))]
-fn split_cell(rest: &[u8]) -> Parts<'_>
+fn split_cell(d: u32, rest: &[u8]) -> Parts
+    requires scale { d ≤ MOST_FIELD_SCALE }
     ensures negative { result.negative ≡ (spec.parts rest.now).negative }
-    ensures whole { result.whole ≡ spec.cut (digits_value 10 (spec.parts rest.now).whole) }
-    ensures decimals { result.decimals.now ≡ (spec.parts rest.now).decimals }
+    ensures units { result.units ≡ spec.cut (spec.units d (spec.parts rest.now)) }
+    ensures too_fine { result.too_fine ≡ spec.is_too_fine d (spec.parts rest.now).decimals }
     ensures size { result.size ≡ (spec.parts rest.now).size }
     ensures complete { result.complete ≡ (spec.parts rest.now).complete }
     ensures within { result.size ≤ length rest.now }
@@ -117,20 +119,19 @@ fn split_cell(rest: &[u8]) -> Parts<'_>
     if run.size == 0 || !starts_with(&rest[size..], POINT) {
         return Parts {
             negative,
-            whole: run.value,
-            decimals: &rest[size..size],
+            units: with_zeros(run.value, d),
+            too_fine: false,
             size,
             complete: run.size != 0,
         };
     }
-    let after = &rest[size + 1..];
-    let decimals = leading_digits(after).size;
+    let decimals = leading_decimals(d, run.value, &rest[size + 1..]);
     Parts {
         negative,
-        whole: run.value,
-        decimals: &after[..decimals],
-        size: size + 1 + decimals,
-        complete: decimals != 0,
+        units: decimals.units,
+        too_fine: decimals.too_fine,
+        size: size + 1 + decimals.size,
+        complete: decimals.size != 0,
     }
 }
 
@@ -143,26 +144,26 @@ fn starts_with(bytes: &[u8], byte: u8) -> bool
     !bytes.is_empty() && bytes[0] == byte
 }
 
-/// The word of the parts of a whole text at scale 0.
+/// The word of the parts of a whole text.
 #[inline(always)]
-fn word_of(parts: Parts<'_>) -> Result<u64, CellFault>
-    ensures { (p : spec.Parts) → p.negative ≡ parts.entry.negative → spec.cut (digits_value 10 p.whole) ≡ parts.entry.whole → p.decimals ≡ parts.entry.decimals.now → result ≡ spec.word_of_parts 0 p }
+fn word_of(parts: Parts) -> Result<u64, CellFault>
+    ensures { (d : ℕ) → (p : spec.Parts) → p.negative ≡ parts.negative → spec.cut (spec.units d p) ≡ parts.units → spec.is_too_fine d p.decimals ≡ parts.too_fine → result ≡ spec.word_of_parts d p }
 {
     let most = if parts.negative {
         1 << 63
     } else {
         (1 << 63) - 1
     };
-    if !all_zeros(parts.decimals) {
+    if parts.too_fine {
         return Err(CellFault::TooFine);
     }
-    if parts.whole > most {
+    if parts.units > most {
         return Err(CellFault::TooLarge);
     }
     Ok(if parts.negative {
-        parts.whole.wrapping_neg()
+        parts.units.wrapping_neg()
     } else {
-        parts.whole
+        parts.units
     })
 }
 
@@ -170,15 +171,30 @@ fn word_of(parts: Parts<'_>) -> Result<u64, CellFault>
 #[inline]
 #[tactic(auto, using(crate::proofs::Texts::texts))]
 pub fn cell_len(d: u32, w: u64) -> usize
-    requires { d ≡ 0 }
+    requires { d ≤ MOST_FIELD_SCALE }
     ensures value { result ≡ length (spec.text d w) }
     ensures bound { (1 ≤ result) × (result ≤ 21) }
 {
     if is_negative(w) {
-        1 + digit_count(neg(w))
+        1 + unsigned_len(d, neg(w))
     } else {
-        digit_count(w)
+        unsigned_len(d, w)
     }
+}
+
+/// The length of the text of a number without its sign.
+#[inline(always)]
+#[tactic(auto, using(crate::proofs::Texts::lengths))]
+fn unsigned_len(d: u32, n: u64) -> usize
+    requires scale { d ≤ MOST_FIELD_SCALE }
+    requires small { n ≤ 2 ^ 63 }
+    ensures value { result ≡ length (spec.unsigned_text d n) }
+    ensures bound { (1 ≤ result) × (result ≤ 20) }
+{
+    if d == 0 {
+        return digit_count(n);
+    }
+    digit_count(n / power_of_ten(d)) + 1 + d as usize
 }
 
 /// Whether the signed reading of a word is below 0.
@@ -194,15 +210,47 @@ fn is_negative(w: u64) -> bool
 #[inline]
 #[tactic(auto, using(crate::proofs::Texts::texts, crate::proofs::ReadsBack::reads_back))]
 pub fn write_cell(d: u32, w: u64, to: &mut Vec<u8>)
-    requires scale { d ≡ 0 }
+    requires scale { d ≤ MOST_FIELD_SCALE }
     requires capacity { vec_len to.old + length (spec.text d w) ≤ vec_capacity to.old }
     ensures written { Appends to.old to.new (spec.text d w) }
     ensures reads_back { spec.cell d (spec.text d w) ≡ Ok w }
 {
-    let mut digits = Buffer::new();
     if !is_negative(w) {
-        return append(digits.format(w).as_bytes(), to);
+        return write_unsigned(d, w, to);
     }
     append(&[MINUS], to);
-    append(digits.format(neg(w)).as_bytes(), to);
+    write_unsigned(d, neg(w), to);
+}
+
+/// Appends the text of a number without its sign.
+#[inline(always)]
+fn write_unsigned(d: u32, n: u64, to: &mut Vec<u8>)
+    requires scale { d ≤ MOST_FIELD_SCALE }
+    requires capacity { vec_len to.old + length (spec.unsigned_text d n) ≤ vec_capacity to.old }
+    ensures { Appends to.old to.new (spec.unsigned_text d n) }
+{
+    let mut digits = Buffer::new();
+    if d == 0 {
+        return append(digits.format(n).as_bytes(), to);
+    }
+    let unit = power_of_ten(d);
+    append(digits.format(n / unit).as_bytes(), to);
+    append(&[POINT], to);
+    write_padded(d, n % unit, to);
+}
+
+const ZEROS: [u8; 18] = [ZERO; 18];
+
+/// Appends the digits of a number, with zeros before them up to `d` digits.
+#[inline(always)]
+fn write_padded(d: u32, n: u64, to: &mut Vec<u8>)
+    requires scale { d ≤ MOST_FIELD_SCALE }
+    requires capacity { vec_len to.old + length (spec.digits_padded d n) ≤ vec_capacity to.old }
+    ensures { Appends to.old to.new (spec.digits_padded d n) }
+{
+    let mut buffer = Buffer::new();
+    let digits = buffer.format(n).as_bytes();
+    let zeros = (d as usize).saturating_sub(digits.len());
+    append(&ZEROS[..zeros], to);
+    append(digits, to);
 }

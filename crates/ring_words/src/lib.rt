@@ -5,6 +5,7 @@
 mod arithmetic;
 mod cells;
 mod digits;
+mod powers;
 
 pub use arithmetic::{add, less, mul, neg, sub};
 pub use cells::{CellFault, cell_len, read_cell, trim_spaces, write_cell};

@@ -3,69 +3,151 @@ use ring_words::{
     CellFault, add, cell_len, less, mul, neg, read_cell, sub, trim_spaces, write_cell,
 };
 use std::alloc::AllocError;
+use vocabulary::limits::MOST_FIELD_SCALE;
 
 const MINUS_ONE: u64 = u64::MAX;
 
-static READ: [(&str, Result<u64, CellFault>); 30] = [
-    ("0", Ok(0)),
-    ("17", Ok(17)),
-    ("  17 ", Ok(17)),
-    ("007", Ok(7)),
-    ("-0", Ok(0)),
-    ("-1", Ok(MINUS_ONE)),
-    ("5.0", Ok(5)),
-    ("-5.000", Ok(18_446_744_073_709_551_611)),
-    ("9223372036854775807", Ok(9_223_372_036_854_775_807)),
-    ("-9223372036854775808", Ok(9_223_372_036_854_775_808)),
-    ("00000000000000000000000000000042", Ok(42)),
-    ("", Err(CellFault::Empty)),
-    ("   ", Err(CellFault::Empty)),
-    ("+1", Err(CellFault::BadByte { at: 0 })),
-    (".5", Err(CellFault::BadByte { at: 0 })),
-    ("5.", Err(CellFault::BadByte { at: 2 })),
-    (" 5. ", Err(CellFault::BadByte { at: 3 })),
-    ("-", Err(CellFault::BadByte { at: 1 })),
-    ("--1", Err(CellFault::BadByte { at: 1 })),
-    ("1e-5", Err(CellFault::BadByte { at: 1 })),
-    ("1 2", Err(CellFault::BadByte { at: 1 })),
-    ("\t1", Err(CellFault::BadByte { at: 0 })),
-    ("1.2.3", Err(CellFault::BadByte { at: 3 })),
-    ("99999999999999999999x", Err(CellFault::BadByte { at: 20 })),
-    ("5.1", Err(CellFault::TooFine)),
-    ("9223372036854775808.5", Err(CellFault::TooFine)),
-    ("9223372036854775808", Err(CellFault::TooLarge)),
-    ("-9223372036854775809", Err(CellFault::TooLarge)),
-    ("18446744073709551617", Err(CellFault::TooLarge)),
-    ("99999999999999999999999999999999", Err(CellFault::TooLarge)),
+/// The words of the largest and of the smallest signed reading.
+const MOST: u64 = 9_223_372_036_854_775_807;
+const LEAST: u64 = 9_223_372_036_854_775_808;
+
+static READ: [(u32, &str, Result<u64, CellFault>); 68] = [
+    (0, "0", Ok(0)),
+    (0, "17", Ok(17)),
+    (0, "  17 ", Ok(17)),
+    (0, "007", Ok(7)),
+    (0, "-0", Ok(0)),
+    (0, "-1", Ok(MINUS_ONE)),
+    (0, "5.0", Ok(5)),
+    (0, "-5.000", Ok(18_446_744_073_709_551_611)),
+    (0, "9223372036854775807", Ok(MOST)),
+    (0, "-9223372036854775808", Ok(LEAST)),
+    (0, "00000000000000000000000000000042", Ok(42)),
+    (0, "", Err(CellFault::Empty)),
+    (0, "   ", Err(CellFault::Empty)),
+    (0, "+1", Err(CellFault::BadByte { at: 0 })),
+    (0, ".5", Err(CellFault::BadByte { at: 0 })),
+    (0, "5.", Err(CellFault::BadByte { at: 2 })),
+    (0, " 5. ", Err(CellFault::BadByte { at: 3 })),
+    (0, "-", Err(CellFault::BadByte { at: 1 })),
+    (0, "--1", Err(CellFault::BadByte { at: 1 })),
+    (0, "1e-5", Err(CellFault::BadByte { at: 1 })),
+    (0, "1 2", Err(CellFault::BadByte { at: 1 })),
+    (0, "\t1", Err(CellFault::BadByte { at: 0 })),
+    (0, "1.2.3", Err(CellFault::BadByte { at: 3 })),
+    (0, "99999999999999999999x", Err(CellFault::BadByte { at: 20 })),
+    (0, "5.1", Err(CellFault::TooFine)),
+    (0, "9223372036854775808.5", Err(CellFault::TooFine)),
+    (0, "9223372036854775808", Err(CellFault::TooLarge)),
+    (0, "-9223372036854775809", Err(CellFault::TooLarge)),
+    (0, "18446744073709551617", Err(CellFault::TooLarge)),
+    (0, "99999999999999999999999999999999", Err(CellFault::TooLarge)),
+    (1, "5", Ok(50)),
+    (1, "-0.5", Ok(18_446_744_073_709_551_611)),
+    (1, "922337203685477580.7", Ok(MOST)),
+    (1, "-922337203685477580.8", Ok(LEAST)),
+    (1, "-922337203685477580.80", Ok(LEAST)),
+    (1, "922337203685477580.8", Err(CellFault::TooLarge)),
+    (1, "-922337203685477580.9", Err(CellFault::TooLarge)),
+    (1, "922337203685477581", Err(CellFault::TooLarge)),
+    (1, "0.01", Err(CellFault::TooFine)),
+    (1, "1844674407370955161.7", Err(CellFault::TooLarge)),
+    (2, "1.5", Ok(150)),
+    (2, "1.50", Ok(150)),
+    (2, "1.5000", Ok(150)),
+    (2, "1.501", Err(CellFault::TooFine)),
+    (2, "1.50x", Err(CellFault::BadByte { at: 4 })),
+    (2, "1.5009x", Err(CellFault::BadByte { at: 6 })),
+    (2, " 1.5. ", Err(CellFault::BadByte { at: 4 })),
+    (2, " -.5", Err(CellFault::BadByte { at: 2 })),
+    (2, "  -3. ", Err(CellFault::BadByte { at: 5 })),
+    (9, "9223372036.854775807", Ok(MOST)),
+    (9, "-9223372036.854775808", Ok(LEAST)),
+    (9, "9223372036.854775808", Err(CellFault::TooLarge)),
+    (9, "0000000000009223372036.854775807000000000", Ok(MOST)),
+    (9, "9223372037", Err(CellFault::TooLarge)),
+    (9, "9223372037.0000000001", Err(CellFault::TooFine)),
+    (9, "0.000000001", Ok(1)),
+    (9, "0.0000000001", Err(CellFault::TooFine)),
+    (18, "0", Ok(0)),
+    (18, "-0.0", Ok(0)),
+    (18, "9", Ok(9_000_000_000_000_000_000)),
+    (18, "10", Err(CellFault::TooLarge)),
+    (18, "9.223372036854775807", Ok(MOST)),
+    (18, "-9.223372036854775808", Ok(LEAST)),
+    (18, "9.223372036854775808", Err(CellFault::TooLarge)),
+    (18, "9.2233720368547758080", Err(CellFault::TooLarge)),
+    (18, "9.2233720368547758070000000000000000000", Ok(MOST)),
+    (18, "9.2233720368547758070000000000000000001", Err(CellFault::TooFine)),
+    (18, "99999999999999999999.0", Err(CellFault::TooLarge)),
 ];
 
 #[test]
 fn cells_are_read(rt: HostRuntime) {
-    for (text, want) in &READ {
+    for (scale, text, want) in &READ {
         let bytes = text.as_bytes();
         assert!(rt; bytes.len() < 100);
-        assert_eq!(rt; read_cell(0, bytes), *want, "at {text}");
+        assert!(rt; *scale <= MOST_FIELD_SCALE);
+        assert_eq!(rt; read_cell(*scale, bytes), *want, "at {scale} of {text}");
     }
 }
 
-static WRITTEN: [(u64, &str); 7] = [
-    (0, "0"),
-    (9, "9"),
-    (10, "10"),
-    (12_345, "12345"),
-    (9_223_372_036_854_775_807, "9223372036854775807"),
-    (9_223_372_036_854_775_808, "-9223372036854775808"),
-    (MINUS_ONE, "-1"),
+static WRITTEN: [(u32, u64, &str); 19] = [
+    (0, 0, "0"),
+    (0, 9, "9"),
+    (0, 10, "10"),
+    (0, 12_345, "12345"),
+    (0, MOST, "9223372036854775807"),
+    (0, LEAST, "-9223372036854775808"),
+    (0, MINUS_ONE, "-1"),
+    (1, 0, "0.0"),
+    (1, 15, "1.5"),
+    (1, LEAST, "-922337203685477580.8"),
+    (2, 5, "0.05"),
+    (2, 18_446_744_073_709_551_466, "-1.50"),
+    (3, 100_000, "100.000"),
+    (9, MINUS_ONE, "-0.000000001"),
+    (9, LEAST, "-9223372036.854775808"),
+    (18, 0, "0.000000000000000000"),
+    (18, MINUS_ONE, "-0.000000000000000001"),
+    (18, MOST, "9.223372036854775807"),
+    (18, LEAST, "-9.223372036854775808"),
 ];
 
 #[test]
 fn cells_are_written(rt: HostRuntime) -> Result<(), AllocError> {
-    for (word, want) in &WRITTEN {
-        let len = cell_len(0, *word);
+    for (scale, word, want) in &WRITTEN {
+        assert!(rt; *scale <= MOST_FIELD_SCALE);
+        let len = cell_len(*scale, *word);
         let mut bytes = Vec::with_capacity(rt.alloc(), len)?;
-        write_cell(0, *word, &mut bytes);
+        write_cell(*scale, *word, &mut bytes);
         assert_eq!(rt; bytes.as_slice(), want.as_bytes());
         assert_eq!(rt; len, want.len());
+    }
+    Ok(())
+}
+
+static WORDS: [u64; 8] = [
+    0,
+    1,
+    9,
+    1_000_000_000,
+    MOST,
+    LEAST,
+    18_446_744_072_709_551_616,
+    MINUS_ONE,
+];
+
+#[test]
+fn what_is_written_is_read(rt: HostRuntime) -> Result<(), AllocError> {
+    for scale in 0..=MOST_FIELD_SCALE {
+        for word in &WORDS {
+            let len = cell_len(scale, *word);
+            let mut bytes = Vec::with_capacity(rt.alloc(), len)?;
+            write_cell(scale, *word, &mut bytes);
+            assert!(rt; bytes.len() < 100);
+            assert_eq!(rt; read_cell(scale, &bytes), Ok(*word), "at {scale} of {word}");
+        }
     }
     Ok(())
 }

@@ -32,3 +32,12 @@ pub const MOST_ELEMENTS: u32 = 1_048_576;
 
 /// The most bytes of a table's file.
 pub const MOST_TABLE_BYTES: u32 = 67_108_864;
+
+/// The largest scale of a field.
+pub const MOST_FIELD_SCALE: u32 = 18;
+
+/// The largest scale of a value inside a computation.
+pub const MOST_SCALE: u32 = 36;
+
+/// The most that a value may change its scale by at once.
+pub const MOST_SCALE_CHANGE: u32 = 18;

@@ -1,17 +1,11 @@
 use Rattle.std.proofs.Common.{◌≡◌, ℕ, ◌+◌, ◌-◌, ◌*◌, ◌≤◌, ◌<◌, List, length, take, get_or, sym, ◌∙◌, arith}
-use Rattle.std.specs.Char.{is_ascii_digit, digit_value}
+use Rattle.std.specs.Char.{is_ascii_digit}
 use Rattle.std.specs.Str.Parse.{digits_value}
-use Rattle.std.proofs.lemmas.Bool.Decides.{nat_tests}
 use Rattle.std.proofs.lemmas.Int.Digits.{digits_value_more}
 use Rattle.std.proofs.lemmas.List.Sums.{prefix_len-drop_yes}
 use Rattle.ring_words.specs.Cell.{cut}
+use Rattle.ring_words.proofs.Decimals.{cut_more, digit_is}
 use Rattle.ring_words.proofs.digits.leading_digits.Goals as goal
-
-digit_is : (c : ℕ) → 48 ≤ c → c ≤ 57 → digit_value c ≡ c - 48
-digit_is c low high = grind (arith, nat_tests)
-
-cut_more : (v w c : ℕ) → w ≡ cut v → cut (w * 10 + c) ≡ cut (v * 10 + c)
-cut_more v w c e = omega arith
 
 value_more : (bytes : List ℕ) (i value : ℕ) → i < length bytes → 48 ≤ get_or bytes i 0 → get_or bytes i 0 ≤ 57 → value ≡ cut (digits_value 10 (take i bytes)) → cut (value * 10 + (get_or bytes i 0 - 48)) ≡ cut (digits_value 10 (take (i + 1) bytes))
 value_more bytes i value inside low high e =
