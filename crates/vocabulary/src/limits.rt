@@ -41,3 +41,6 @@ pub const MOST_SCALE: u32 = 36;
 
 /// The most that a value may change its scale by at once.
 pub const MOST_SCALE_CHANGE: u32 = 18;
+
+/// The most rows or columns of a block.
+pub const MOST_SIDE: u32 = 6;

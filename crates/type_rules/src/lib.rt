@@ -1,0 +1,15 @@
+//! The types of values, and one rule for each form of expression: from the types of its parts to its own, or the first
+//! kind of fault that applies.
+#![tactic(auto)]
+
+mod blocks;
+mod products;
+mod scales;
+mod sums;
+mod types;
+
+pub use blocks::{block_rule, entry_rule, rank_rule, transposed_rule};
+pub use products::{dot_rule, entrywise_rule, product_rule};
+pub use scales::{isqrt_rule, literal_rule, quot_rule, rescale_rule};
+pub use sums::{comparison_rule, same_rule};
+pub use types::{BlockShape, IndexRange, NodeType, TypeKind};
