@@ -142,7 +142,7 @@ unfoldable pub quot_rule : NodeType → NodeType → Option ℕ → Result NodeT
 quot_rule left right None = Err kind.NotConstant
 quot_rule left right (Some scale) =
     judged ((kind.Shape, not (is_scalar left && is_scalar right))
-      ∷ (kind.Scale, nat_lt MOST_SCALE scale || not (is_exponent (scale + scale_of right) (scale_of left))) ∷ []) (Local Number scale)
+    ∷ (kind.Scale, nat_lt MOST_SCALE scale || not (is_exponent (scale + scale_of right) (scale_of left))) ∷ []) (Local Number scale)
 
 -- the square root of a number at a scale, which is written as a whole number
 unfoldable pub isqrt_rule : NodeType → Option ℕ → Result NodeType TypeKind
@@ -200,7 +200,7 @@ is_too_large rows = nat_lt MOST_SIDE (length rows) || nat_lt MOST_SIDE (first_wi
 unfoldable pub block_rule : List (List NodeType) → Result NodeType TypeKind
 block_rule rows =
     judged ((kind.Shape, not (is_block rows)) ∷ (kind.Scale, not (has_one_scale rows)) ∷ (kind.TooLarge, is_too_large rows) ∷ [])
-      (Local (block_of (length rows) (first_width rows)) (first_scale rows))
+    (Local (block_of (length rows) (first_width rows)) (first_scale rows))
 
 -- ---- entries and references
 
@@ -229,7 +229,7 @@ is_entry_outside type indices = false
 unfoldable pub entry_rule : NodeType → List IndexRange → Result NodeType TypeKind
 entry_rule type indices =
     judged ((kind.NotConstant, list_any is_unknown indices) ∷ (kind.Shape, not (is_entry type indices)) ∷ (kind.TooLarge, is_entry_outside type indices) ∷ [])
-      (Local Number (scale_of type))
+    (Local Number (scale_of type))
 
 -- a value has so many indices as its view: none for a number, one over a set, two over a pair of sets
 abbrev pub has_rank : NodeType → ℕ → Bool

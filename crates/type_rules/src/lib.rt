@@ -12,4 +12,4 @@ pub use blocks::{block_rule, entry_rule, rank_rule, transposed_rule};
 pub use products::{dot_rule, entrywise_rule, product_rule};
 pub use scales::{isqrt_rule, literal_rule, quot_rule, rescale_rule};
 pub use sums::{comparison_rule, same_rule};
-pub use types::{BlockShape, IndexRange, NodeType, TypeKind};
+pub use types::{BlockShape, IndexRange, NodeType, TypeKind, scale_of};

@@ -1,11 +1,13 @@
 //! Products: of numbers, of matrices and vectors, and entry by entry.
 
-ghost use Rattle.std.specs.Prelude.{◌≡◌, ◌<◌, ◌+◌, ◌^◌};
+ghost use Rattle.std.specs.Prelude.{◌≡◌, ◌≤◌};
+ghost use Rattle.vocabulary.specs.declared.limits.TheConstants.{MOST_SCALE};
 ghost use Rattle.type_rules.specs.Rules as spec;
 ghost use Rattle.type_rules.specs.Types.{scale_of};
 
 use crate::types::{
-    BlockShape, NodeType, TypeKind, is_over_the_same, is_same_block, is_scalar, scale_of, with_scale,
+    BlockShape, NodeType, TypeKind, is_over_the_same, is_same_block, is_scalar, scale_of,
+    with_scale,
 };
 use vocabulary::limits::MOST_SCALE;
 
@@ -53,18 +55,21 @@ fn proper_product(scale: u32, left: NodeType, right: NodeType) -> Option<NodeTyp
             let block = block_product(a, b)?;
             Some(NodeType::Local { block, scale })
         }
-        (NodeType::SystemMatrix { rows, block: a, .. }, NodeType::SystemVector { block: b, .. }) => {
-            let block = matrix_vector_block(a, b)?;
-            Some(NodeType::SystemVector {
-                set: rows,
-                block,
-                scale,
-            })
-        }
+        (NodeType::SystemMatrix { rows, block: a, .. }, NodeType::SystemVector { block: b, .. }) =>
+            {
+                let block = matrix_vector_block(a, b)?;
+                Some(NodeType::SystemVector {
+                    set: rows,
+                    block,
+                    scale,
+                })
+            }
         (
             NodeType::SystemMatrix { rows, block: a, .. },
             NodeType::SystemMatrix {
-                columns, block: b, ..
+                columns,
+                block: b,
+                ..
             },
         ) => {
             let block = matrix_matrix_block(a, b)?;
@@ -110,8 +115,8 @@ fn is_inner_the_same(left: NodeType, right: NodeType) -> bool
 /// The type of a product: a number times anything, a matrix times a vector or a matrix. The scales are added.
 #[tactic(auto, unfolding(crate::specs::Rules::product_rule))]
 pub fn product_rule(left: NodeType, right: NodeType) -> Result<NodeType, TypeKind>
-    requires small_left { scale_of left < 2 ^ 31 }
-    requires small_right { scale_of right < 2 ^ 31 }
+    requires small_left { scale_of left ≤ MOST_SCALE }
+    requires small_right { scale_of right ≤ MOST_SCALE }
     ensures { result ≡ spec.product_rule left right }
 {
     let scale = scale_of(left) + scale_of(right);
@@ -151,8 +156,8 @@ fn are_vectors(left: NodeType, right: NodeType) -> bool
 
 /// The scale of a product of two vectors entry by entry.
 fn vectors_scale(left: NodeType, right: NodeType) -> Result<u32, TypeKind>
-    requires small_left { scale_of left < 2 ^ 31 }
-    requires small_right { scale_of right < 2 ^ 31 }
+    requires small_left { scale_of left ≤ MOST_SCALE }
+    requires small_right { scale_of right ≤ MOST_SCALE }
     ensures { result ≡ spec.judged (spec.vector_faults left right) (spec.scales_added left right) }
 {
     if !are_vectors(left, right) {
@@ -171,8 +176,8 @@ fn vectors_scale(left: NodeType, right: NodeType) -> Result<u32, TypeKind>
 /// The type of a product entry by entry of two vectors of one shape. The scales are added.
 #[tactic(auto, unfolding(crate::specs::Rules::entrywise_rule))]
 pub fn entrywise_rule(left: NodeType, right: NodeType) -> Result<NodeType, TypeKind>
-    requires small_left { scale_of left < 2 ^ 31 }
-    requires small_right { scale_of right < 2 ^ 31 }
+    requires small_left { scale_of left ≤ MOST_SCALE }
+    requires small_right { scale_of right ≤ MOST_SCALE }
     ensures { result ≡ spec.entrywise_rule left right }
 {
     let scale = vectors_scale(left, right)?;
@@ -182,8 +187,8 @@ pub fn entrywise_rule(left: NodeType, right: NodeType) -> Result<NodeType, TypeK
 /// The type of the sum over all entries of the products of two vectors of one shape: a number. The scales are added.
 #[tactic(auto, unfolding(crate::specs::Rules::dot_rule))]
 pub fn dot_rule(left: NodeType, right: NodeType) -> Result<NodeType, TypeKind>
-    requires small_left { scale_of left < 2 ^ 31 }
-    requires small_right { scale_of right < 2 ^ 31 }
+    requires small_left { scale_of left ≤ MOST_SCALE }
+    requires small_right { scale_of right ≤ MOST_SCALE }
     ensures { result ≡ spec.dot_rule left right }
 {
     let scale = vectors_scale(left, right)?;

@@ -54,11 +54,7 @@ fn is_exponent(more: u64, fewer: u64) -> bool
 
 /// The type of the quotient of two numbers at a scale.
 #[tactic(auto, unfolding(crate::specs::Rules::quot_rule))]
-pub fn quot_rule(
-    left: NodeType,
-    right: NodeType,
-    scale: Option<u32>,
-) -> Result<NodeType, TypeKind>
+pub fn quot_rule(left: NodeType, right: NodeType, scale: Option<u32>) -> Result<NodeType, TypeKind>
     ensures { result ≡ spec.quot_rule left right scale }
 {
     let Some(scale) = scale else {

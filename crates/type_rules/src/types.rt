@@ -17,7 +17,10 @@ pub enum BlockShape {
 #[derive(Clone, Copy, Debug, PartialEq, Eq)]
 pub enum NodeType {
     /// One block: a value of a function, or a scalar of the main procedure.
-    Local { block: BlockShape, scale: u32 },
+    Local {
+        block: BlockShape,
+        scale: u32,
+    },
     /// A block for each element of a set.
     SystemVector {
         set: u32,
