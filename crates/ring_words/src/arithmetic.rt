@@ -1,4 +1,4 @@
-ghost use Rattle.std.specs.Prelude.{◌≡◌};
+ghost use Rattle.std.specs.Prelude.{◌≡◌, ◌^◌, not, nat_lt};
 ghost use Rattle.ring_words.specs.Word as words;
 
 /// The sum of two words, modulo 2^64.
@@ -44,4 +44,12 @@ pub fn less(a: u64, b: u64) -> bool
     ensures { result ≡ words.is_less a b }
 {
     a.cast_signed() < b.cast_signed()
+}
+
+/// Whether the signed reading of a word is below 0.
+#[inline(always)]
+pub fn is_negative(w: u64) -> bool
+    ensures { result ≡ not (nat_lt w (2 ^ 63)) }
+{
+    w >= 1 << 63
 }

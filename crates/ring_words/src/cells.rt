@@ -1,13 +1,13 @@
 //! The cells of tables: a word's text is written, and the word that a text stands for is read.
 //!
 //! A cell of scale d counts units of 1/10^d.
-ghost use Rattle.std.specs.Prelude.{◌≡◌, ℕ, ◌+◌, ◌-◌, ◌^◌, ◌<◌, ◌≤◌, not, nat_lt, length, take, vec_len, vec_capacity};
+ghost use Rattle.std.specs.Prelude.{◌≡◌, ℕ, ◌+◌, ◌-◌, ◌^◌, ◌<◌, ◌≤◌, length, take, vec_len, vec_capacity};
 ghost use Rattle.std.specs.Bool.{OnTrue};
 ghost use Rattle.std.specs.List.{prefix_len, suffix_len};
 ghost use Rattle.ring_words.specs.Cell as spec;
 ghost use Rattle.vocabulary.specs.Buffer.{Appends};
 
-use crate::arithmetic::neg;
+use crate::arithmetic::{is_negative, neg};
 use crate::digits::{digit_count, leading_decimals, leading_digits, with_zeros};
 use crate::powers::power_of_ten;
 use itoa::Buffer;
@@ -195,14 +195,6 @@ fn unsigned_len(d: u32, n: u64) -> usize
         return digit_count(n);
     }
     digit_count(n / power_of_ten(d)) + 1 + d as usize
-}
-
-/// Whether the signed reading of a word is below 0.
-#[inline(always)]
-fn is_negative(w: u64) -> bool
-    ensures { result ≡ not (nat_lt w (2 ^ 63)) }
-{
-    w >= 1 << 63
 }
 
 /// Appends the text of the word `w` at scale `d`. The buffer has the capacity for it, which stays as it is: this takes

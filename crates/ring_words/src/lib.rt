@@ -6,7 +6,11 @@ mod arithmetic;
 mod cells;
 mod digits;
 mod powers;
+mod scales;
+mod trap;
 
 pub use arithmetic::{add, less, mul, neg, sub};
 pub use cells::{CellFault, cell_len, read_cell, trim_spaces, write_cell};
+pub use scales::{isqrt, quot, rescale};
+pub use trap::TrapKind;
 pub use vocabulary::{L, Text};

@@ -1,6 +1,7 @@
 //! Cells: the words that texts stand for, the faults of other texts, and the texts that are written of words.
 use ring_words::{
-    CellFault, add, cell_len, less, mul, neg, read_cell, sub, trim_spaces, write_cell,
+    CellFault, add, cell_len, isqrt, less, mul, neg, quot, read_cell, rescale, sub, trim_spaces,
+    write_cell,
 };
 use std::alloc::AllocError;
 use vocabulary::limits::MOST_FIELD_SCALE;
@@ -9,6 +10,7 @@ const MINUS_ONE: u64 = u64::MAX;
 
 /// The words of the largest and of the smallest signed reading.
 const MOST: u64 = 9_223_372_036_854_775_807;
+
 const LEAST: u64 = 9_223_372_036_854_775_808;
 
 static READ: [(u32, &str, Result<u64, CellFault>); 68] = [
@@ -35,13 +37,21 @@ static READ: [(u32, &str, Result<u64, CellFault>); 68] = [
     (0, "1 2", Err(CellFault::BadByte { at: 1 })),
     (0, "\t1", Err(CellFault::BadByte { at: 0 })),
     (0, "1.2.3", Err(CellFault::BadByte { at: 3 })),
-    (0, "99999999999999999999x", Err(CellFault::BadByte { at: 20 })),
+    (
+        0,
+        "99999999999999999999x",
+        Err(CellFault::BadByte { at: 20 }),
+    ),
     (0, "5.1", Err(CellFault::TooFine)),
     (0, "9223372036854775808.5", Err(CellFault::TooFine)),
     (0, "9223372036854775808", Err(CellFault::TooLarge)),
     (0, "-9223372036854775809", Err(CellFault::TooLarge)),
     (0, "18446744073709551617", Err(CellFault::TooLarge)),
-    (0, "99999999999999999999999999999999", Err(CellFault::TooLarge)),
+    (
+        0,
+        "99999999999999999999999999999999",
+        Err(CellFault::TooLarge),
+    ),
     (1, "5", Ok(50)),
     (1, "-0.5", Ok(18_446_744_073_709_551_611)),
     (1, "922337203685477580.7", Ok(MOST)),
@@ -78,7 +88,11 @@ static READ: [(u32, &str, Result<u64, CellFault>); 68] = [
     (18, "9.223372036854775808", Err(CellFault::TooLarge)),
     (18, "9.2233720368547758080", Err(CellFault::TooLarge)),
     (18, "9.2233720368547758070000000000000000000", Ok(MOST)),
-    (18, "9.2233720368547758070000000000000000001", Err(CellFault::TooFine)),
+    (
+        18,
+        "9.2233720368547758070000000000000000001",
+        Err(CellFault::TooFine),
+    ),
     (18, "99999999999999999999.0", Err(CellFault::TooLarge)),
 ];
 
@@ -164,4 +178,94 @@ fn words_are_trimmed_and_computed(rt: HostRuntime) {
     assert!(rt; less(MINUS_ONE, 0));
     assert!(rt; !less(0, MINUS_ONE));
     assert!(rt; !less(4, 4));
+}
+
+/// Words, scales, and what they are at the last scale.
+static RESCALED: [(u64, u32, u32, u64); 10] = [
+    (150, 2, 2, 150),
+    (150, 2, 4, 15_000),
+    (150, 2, 1, 15),
+    (159, 2, 1, 15),
+    (18_446_744_073_709_551_466, 2, 1, 18_446_744_073_709_551_601),
+    (18_446_744_073_709_551_465, 2, 1, 18_446_744_073_709_551_600),
+    (MINUS_ONE, 18, 0, MINUS_ONE),
+    (LEAST, 36, 18, 18_446_744_073_709_551_606),
+    (LEAST, 18, 36, 0),
+    (MOST, 0, 1, 18_446_744_073_709_551_606),
+];
+
+/// Two words with their scales, the scale of their quotient, and the quotient.
+static QUOTIENTS: [(u64, u32, u64, u32, u32, Option<u64>); 11] = [
+    (150, 2, 7, 2, 2, Some(2_142)),
+    (
+        150,
+        2,
+        18_446_744_073_709_551_609,
+        2,
+        2,
+        Some(18_446_744_073_709_549_473),
+    ),
+    (
+        18_446_744_073_709_551_466,
+        2,
+        7,
+        2,
+        2,
+        Some(18_446_744_073_709_549_473),
+    ),
+    (
+        18_446_744_073_709_551_466,
+        2,
+        18_446_744_073_709_551_609,
+        2,
+        2,
+        Some(2_142),
+    ),
+    (
+        18_446_744_073_709_551_466,
+        2,
+        5,
+        2,
+        2,
+        Some(18_446_744_073_709_548_616),
+    ),
+    (0, 0, MINUS_ONE, 0, 18, Some(0)),
+    (7, 0, 0, 0, 0, None),
+    (0, 36, 0, 18, 18, None),
+    (1, 0, 3, 0, 18, Some(333_333_333_333_333_333)),
+    (LEAST, 0, MINUS_ONE, 0, 0, Some(LEAST)),
+    (MOST, 0, 1, 0, 1, Some(18_446_744_073_709_551_606)),
+];
+
+/// A word with its scale, the scale of its root, and the root.
+static ROOTS: [(u64, u32, u32, Option<u64>); 9] = [
+    (0, 0, 0, Some(0)),
+    (15, 0, 0, Some(3)),
+    (16, 0, 0, Some(4)),
+    (2, 0, 9, Some(1_414_213_562)),
+    (225, 2, 1, Some(15)),
+    (225, 2, 2, Some(150)),
+    (MOST, 0, 0, Some(3_037_000_499)),
+    (MOST, 18, 18, Some(3_037_000_499_976_049_692)),
+    (MINUS_ONE, 0, 0, None),
+];
+
+#[test]
+fn words_change_scales(rt: HostRuntime) {
+    for (word, from, to, want) in &RESCALED {
+        assert!(rt; *from <= 36 && *to <= 36 && *from <= *to + 18 && *to <= *from + 18);
+        assert_eq!(rt;
+            rescale(*word, *from, *to),
+            *want,
+            "at {word} from {from} to {to}"
+        );
+    }
+    for (a, s, b, t, d, want) in &QUOTIENTS {
+        assert!(rt; *s <= 36 && *t <= 36 && *d <= 36 && *s <= *d + *t && *d + *t <= *s + 18);
+        assert_eq!(rt; quot(*a, *s, *b, *t, *d), *want, "at {a} by {b}");
+    }
+    for (a, s, d, want) in &ROOTS {
+        assert!(rt; *s <= 36 && *d <= 36 && *s <= 2 * *d && 2 * *d <= *s + 18);
+        assert_eq!(rt; isqrt(*a, *s, *d), *want, "at {a}");
+    }
 }
