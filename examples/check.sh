@@ -1,6 +1,7 @@
 #!/bin/sh
 # Runs the built program on every model here and compares what it prints with the file `expected` beside it, on one
-# command line for each status that a user can bring about, and on the refused programs that docs/formats.md shows.
+# command line for each status that a user can bring about, and on the refused programs and tables that docs/formats.md
+# shows.
 # Usage: sh examples/check.sh [PROGRAM]; without one, the program that `rt ci` built. The first that fails ends it.
 set -eu
 here=$(cd "$(dirname "$0")" && pwd)
@@ -79,3 +80,23 @@ refused "$(repeated 9000 '  points.x = points.x;' | sed '1s/^  //')" 'line 8195,
 refused 'points.x = points.x + ;' 'line 6, token 28: syntax'
 refused 'points.x = 2*points.x' 'line 7, token 29: syntax'
 refused 'points.x = points.x*2;' 'not yet'
+
+# refused_table NOTE LINES..: a table of springs with these lines is refused
+refused_table() {
+    note=$1
+    shift
+    : >"$work/springs.csv"
+    [ $# -eq 0 ] || printf '%s\n' "$@" >"$work/springs.csv"
+    echo "refused: $work/springs.csv$note" >"$work/wanted"
+    call run pull.sim points.csv "$work/springs.csv"
+    compare "a table that is refused$note" "$status" 2 "$work/nothing" "$work/wanted"
+}
+
+refused_table ': no header'
+refused_table ' row 0, column 2: header' p0,p1,stiffness
+refused_table ' row 1: width' p0,p1,k 0,1
+refused_table ' row 2, column 2: empty cell' p0,p1,k 0,1,2 1,2,
+refused_table ' row 1, column 2: bad byte at 1' p0,p1,k 0,1,2e3
+refused_table ' row 1, column 2: too many decimals' p0,p1,k 0,1,2.5
+refused_table ' row 1, column 2: too large' p0,p1,k 0,1,9223372036854775808
+refused_table ' row 1, column 1: no such endpoint' p0,p1,k 0,3,2

@@ -8,6 +8,11 @@ use Rattle.simit_run.specs.Answer.{answer_of}
 use Rattle.simit_run.specs.Command.{Command, command_of, file_name}
 use Rattle.simit_run.specs.ProgramText.{offset_of}
 use Rattle.simit_run.specs.Stage.{limit_of}
+use Rattle.vocabulary.specs.declared.limits.TheConstants.{MOST_ELEMENTS}
+use Rattle.ring_words.specs.declared.cells.CellFault.{CellFault}
+use Rattle.ring_words.specs.declared.cells.CellFault.TheVariants as cell
+use Rattle.set_tables.specs.declared.faults.TableFault.{TableFault}
+use Rattle.set_tables.specs.declared.faults.TableFault.TheVariants as table
 use Rattle.sim_lexer.specs.declared.token.LexFault.{LexFault}
 use Rattle.sim_lexer.specs.declared.token.LexFault.TheVariants as fault
 use Rattle.simit_run.specs.declared.role.FileRole.{FileRole}
@@ -71,6 +76,33 @@ lexical_words fault.Memory = codes ": no memory\n"
 abbrev pub place_note : ℕ → List ℕ → ℕ → List ℕ → List ℕ
 place_note line unit place words = concat (codes "refused: line " ∷ decimal line ∷ unit ∷ decimal place ∷ words ∷ [])
 
+-- what is wrong with a cell of a table
+abbrev pub cell_words : CellFault → List (List ℕ)
+cell_words cell.Empty = codes ": empty cell\n" ∷ []
+cell_words (cell.BadByte at) = codes ": bad byte at " ∷ decimal at ∷ codes "\n" ∷ []
+cell_words cell.TooFine = codes ": too many decimals\n" ∷ []
+cell_words cell.TooLarge = codes ": too large\n" ∷ []
+
+-- the note line of a whole table, of one of its rows, and of a cell; the header is row 0
+abbrev pub file_note : List ℕ → List (List ℕ) → List ℕ
+file_note file words = concat (codes "refused: " ∷ file ∷ words)
+
+abbrev pub row_note : List ℕ → ℕ → List (List ℕ) → List ℕ
+row_note file row words = file_note file (codes " row " ∷ decimal row ∷ words)
+
+abbrev pub cell_note : List ℕ → ℕ → ℕ → List (List ℕ) → List ℕ
+cell_note file row column words = row_note file row (codes ", column " ∷ decimal column ∷ words)
+
+-- the note line of a table's fault, by the name of its file
+abbrev pub table_note : List ℕ → TableFault → List ℕ
+table_note file table.NoHeader = file_note file (codes ": no header\n" ∷ [])
+table_note file (table.Header column) = cell_note file 0 column (codes ": header\n" ∷ [])
+table_note file (table.Width row) = row_note file row (codes ": width\n" ∷ [])
+table_note file (table.Cell row column fault) = cell_note file row column (cell_words fault)
+table_note file (table.Endpoint row column) = cell_note file row column (codes ": no such endpoint\n" ∷ [])
+table_note file table.TooManyRows = file_note file (codes ": more than " ∷ decimal MOST_ELEMENTS ∷ codes " rows\n" ∷ [])
+table_note file table.Memory = file_note file (codes ": no memory\n" ∷ [])
+
 -- the note line of a refusal, by the names of the files
 abbrev pub refusal_note : (FileRole → List ℕ) → Refusal → List ℕ
 refusal_note names refusal.Words = usage_note
@@ -81,8 +113,7 @@ refusal_note names (refusal.Syntax line token) = place_note line (codes ", token
 refusal_note names refusal.NotYet = not_yet_note
 refusal_note names (refusal.FileCount files sets) =
     concat (codes "refused: " ∷ decimal files ∷ codes " files for " ∷ decimal sets ∷ codes " sets\n" ∷ [])
-refusal_note names (refusal.Table number fault) =
-    concat (codes "refused: " ∷ names (role.Table number) ∷ codes ": table\n" ∷ [])
+refusal_note names (refusal.Table number fault) = table_note (names (role.Table number)) fault
 
 -- the note line of an answer that is no output
 abbrev pub note_of : (FileRole → List ℕ) → Failure → List ℕ

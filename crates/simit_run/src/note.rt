@@ -4,7 +4,8 @@ ghost use Rattle.std.specs.Prelude.{◌≡◌, ◌≤◌, [], ◌∷◌, map, co
 ghost use Rattle.std.specs.List.{concat};
 ghost use Rattle.simit_io.specs.Inputs.{Rose};
 ghost use Rattle.simit_run.specs.Command.{file_name};
-ghost use Rattle.simit_run.specs.Ending.{PutsNote, lexical_words, memory_note, note_of, place_note, refusal_note, usage_note, write_fault_note};
+ghost use Rattle.simit_run.specs.Ending.{PutsNote, cell_note, cell_words, file_note, lexical_words, memory_note, note_of, place_note, refusal_note, row_note, table_note, usage_note, write_fault_note};
+ghost use Rattle.vocabulary.specs.declared.limits.TheConstants.{MOST_ELEMENTS};
 ghost use Rattle.simit_run.specs.ProgramText.{offset_of};
 ghost use Rattle.simit_run.specs.Shown.{shown};
 ghost use Rattle.simit_run.specs.Stage as stage;
@@ -14,8 +15,11 @@ use crate::failure::{Failure, Refusal};
 use crate::file::limit_of;
 use crate::role::FileRole;
 use itoa::Buffer;
+use ring_words::CellFault;
+use set_tables::TableFault;
 use sim_lexer::LexFault;
 use simit_io::{Sink, put_all, putting_law};
+use vocabulary::limits::MOST_ELEMENTS;
 
 /// Puts pieces one after another, up to the first that the sink doesn't take whole.
 fn put_pieces<N: Sink>(notes: &mut N, pieces: &[&str])
@@ -132,6 +136,114 @@ pub fn put_usage<N: Sink>(notes: &mut N)
     put_pieces(notes, &["usage: simit run PROGRAM SETS..\n"]);
 }
 
+/// Puts the line of a table with more rows than a set may have elements.
+fn put_too_many_rows<N: Sink>(notes: &mut N, file: &str)
+    ensures note { PutsNote (N.written notes.old) (N.written notes.new) (Rose (N.faults notes.old) (N.faults notes.new)) (file_note file.now (codes ": more than " ∷ decimal MOST_ELEMENTS ∷ codes " rows\n" ∷ [])) }
+    ensures counted { N.faults notes.old ≤ N.faults notes.new }
+{
+    let mut most = Buffer::new();
+    put_five(
+        notes,
+        "refused: ",
+        file,
+        ": more than ",
+        most.format(MOST_ELEMENTS),
+        " rows\n",
+    );
+}
+
+/// Puts the line of a row of another width.
+fn put_width<N: Sink>(notes: &mut N, file: &str, row: u32)
+    ensures note { PutsNote (N.written notes.old) (N.written notes.new) (Rose (N.faults notes.old) (N.faults notes.new)) (row_note file.now row (codes ": width\n" ∷ [])) }
+    ensures counted { N.faults notes.old ≤ N.faults notes.new }
+{
+    let mut of_row = Buffer::new();
+    put_five(
+        notes,
+        "refused: ",
+        file,
+        " row ",
+        of_row.format(row),
+        ": width\n",
+    );
+}
+
+/// Puts the line of a cell of a table.
+fn put_in_cell<'a, N: Sink>(notes: &mut N, file: &'a str, row: u32, column: u32, words: &'a str)
+    ensures note { PutsNote (N.written notes.old) (N.written notes.new) (Rose (N.faults notes.old) (N.faults notes.new)) (cell_note file.now row column (words.now ∷ [])) }
+    ensures counted { N.faults notes.old ≤ N.faults notes.new }
+{
+    let mut of_row = Buffer::new();
+    let mut of_column = Buffer::new();
+    put_pieces(
+        notes,
+        &[
+            "refused: ",
+            file,
+            " row ",
+            of_row.format(row),
+            ", column ",
+            of_column.format(column),
+            words,
+        ],
+    );
+}
+
+/// Puts the line of a cell with a bad byte.
+fn put_bad_byte<N: Sink>(notes: &mut N, file: &str, row: u32, column: u32, offset: u32)
+    ensures note { PutsNote (N.written notes.old) (N.written notes.new) (Rose (N.faults notes.old) (N.faults notes.new)) (cell_note file.now row column (codes ": bad byte at " ∷ decimal offset ∷ codes "\n" ∷ [])) }
+    ensures counted { N.faults notes.old ≤ N.faults notes.new }
+{
+    let mut of_row = Buffer::new();
+    let mut of_column = Buffer::new();
+    let mut of_offset = Buffer::new();
+    put_pieces(
+        notes,
+        &[
+            "refused: ",
+            file,
+            " row ",
+            of_row.format(row),
+            ", column ",
+            of_column.format(column),
+            ": bad byte at ",
+            of_offset.format(offset),
+            "\n",
+        ],
+    );
+}
+
+/// Puts the line of a cell that states no word.
+fn put_cell_fault<N: Sink>(notes: &mut N, file: &str, row: u32, column: u32, fault: CellFault)
+    ensures note { PutsNote (N.written notes.old) (N.written notes.new) (Rose (N.faults notes.old) (N.faults notes.new)) (cell_note file.now row column (cell_words fault)) }
+    ensures counted { N.faults notes.old ≤ N.faults notes.new }
+{
+    match fault {
+        CellFault::Empty => put_in_cell(notes, file, row, column, ": empty cell\n"),
+        CellFault::BadByte { at } => put_bad_byte(notes, file, row, column, at),
+        CellFault::TooFine => put_in_cell(notes, file, row, column, ": too many decimals\n"),
+        CellFault::TooLarge => put_in_cell(notes, file, row, column, ": too large\n"),
+    }
+}
+
+/// Puts the line of a table that states no set of its schema.
+fn put_table_fault<N: Sink>(notes: &mut N, file: &str, fault: TableFault)
+    ensures note { PutsNote (N.written notes.old) (N.written notes.new) (Rose (N.faults notes.old) (N.faults notes.new)) (table_note file.now fault) }
+    ensures counted { N.faults notes.old ≤ N.faults notes.new }
+{
+    match fault {
+        TableFault::NoHeader => put_three(notes, "refused: ", file, ": no header\n"),
+        TableFault::Header { column } => put_in_cell(notes, file, 0, column, ": header\n"),
+        TableFault::Width { row } => put_width(notes, file, row),
+        TableFault::Cell { row, column, fault } => put_cell_fault(notes, file, row, column, fault),
+        TableFault::Endpoint { row, column } => {
+            put_in_cell(notes, file, row, column, ": no such endpoint\n");
+        }
+        TableFault::TooManyRows => put_too_many_rows(notes, file),
+        TableFault::Memory => put_three(notes, "refused: ", file, ": no memory\n"),
+    }
+}
+
 /// Puts the line of a refusal.
 fn put_refusal<N: Sink>(notes: &mut N, command: Command<'_>, refusal: Refusal)
     ensures note { PutsNote (N.written notes.old) (N.written notes.new) (Rose (N.faults notes.old) (N.faults notes.new)) (refusal_note (file_name (shown command.entry)) refusal) }
@@ -152,12 +264,9 @@ fn put_refusal<N: Sink>(notes: &mut N, command: Command<'_>, refusal: Refusal)
         }
         Refusal::NotYet => put_pieces(notes, &["refused: not yet\n"]),
         Refusal::FileCount { files, sets } => put_file_count(notes, files, sets),
-        Refusal::Table { set, fault: _ } => put_three(
-            notes,
-            "refused: ",
-            command.file_name(FileRole::Table(set)),
-            ": table\n",
-        ),
+        Refusal::Table { set, fault } => {
+            put_table_fault(notes, command.file_name(FileRole::Table(set)), fault);
+        }
     }
 }
 

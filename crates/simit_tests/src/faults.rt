@@ -139,7 +139,7 @@ fn nothing_is_read_after_a_refusal_and_each_put_of_its_note_fails(
     let no_program = refused("refused: not yet\n");
     let no_tree = refused("refused: line 5, token 25: syntax\n");
     let no_tables = refused("refused: 1 files for 2 sets\n");
-    let no_set = refused("refused: points.csv: table\n");
+    let no_set = refused("refused: points.csv row 1: width\n");
     // The calls that each file needs, and so the number of the first after them.
     let of_program = calls_for(program, 4096);
     let of_refused = calls_for(REFUSED, 4096);

@@ -65,7 +65,10 @@ fn at_most_1048576_rows(rt: HostRuntime) -> Result<(), Fail> {
     let out = numbered(rt.alloc(), "set points\nx\n", 1_048_576, "", "\n")?;
     for (count, end) in [
         (1_048_576, done(out.as_str())),
-        (1_048_577, refused("refused: points.csv: table\n")),
+        (
+            1_048_577,
+            refused("refused: points.csv: more than 1048576 rows\n"),
+        ),
     ] {
         let points = numbered(rt.alloc(), "x\n", count, "", "\n")?;
         assert_over_points(&rt, "rows", PROGRAM, points.as_bytes(), end)?;

@@ -160,12 +160,70 @@ fn springs_of_three_and_of_eight_endpoints(rt: HostRuntime) -> Result<(), Fail> 
     Ok(())
 }
 
-/// Tables of points and of springs, and the note of the first that is none.
-static REFUSED: [(&str, &str, &str); 4] = [
-    (SPRINGS, POINTS, "refused: points.csv: table\n"),
-    (POINTS, POINTS, "refused: springs.csv: table\n"),
-    (POINTS, "p0,p1,k\n0,3,2\n", "refused: springs.csv: table\n"),
-    ("x,f\n", SPRINGS, "refused: springs.csv: table\n"),
+/// Tables of points and of springs, and the note of the first that is refused.
+static REFUSED: [(&str, &str, &str); 14] = [
+    (
+        SPRINGS,
+        POINTS,
+        "refused: points.csv row 0, column 0: header\n",
+    ),
+    (
+        POINTS,
+        POINTS,
+        "refused: springs.csv row 0, column 0: header\n",
+    ),
+    (
+        "x,f,g\n0,0,0\n",
+        SPRINGS,
+        "refused: points.csv row 0, column 2: header\n",
+    ),
+    ("\n", SPRINGS, "refused: points.csv: no header\n"),
+    (POINTS, "", "refused: springs.csv: no header\n"),
+    (
+        POINTS,
+        "p0,p1,k\n0,1\n0,3,2\n",
+        "refused: springs.csv row 1: width\n",
+    ),
+    (
+        POINTS,
+        "p0,p1,k\n0,3,2\n",
+        "refused: springs.csv row 1, column 1: no such endpoint\n",
+    ),
+    (
+        "x,f\n",
+        SPRINGS,
+        "refused: springs.csv row 1, column 0: no such endpoint\n",
+    ),
+    (
+        POINTS,
+        "p0,p1,k\n0,1,2\n0,0.5,2\n",
+        "refused: springs.csv row 2, column 1: too many decimals\n",
+    ),
+    (
+        "x,f\n0,0\n10,\n",
+        SPRINGS,
+        "refused: points.csv row 2, column 1: empty cell\n",
+    ),
+    (
+        "x,f\n 1e-5,0\n",
+        SPRINGS,
+        "refused: points.csv row 1, column 0: bad byte at 2\n",
+    ),
+    (
+        "x,f\n0,1.501\n",
+        SPRINGS,
+        "refused: points.csv row 1, column 1: too many decimals\n",
+    ),
+    (
+        "x,f\n9223372036854775808,0\n",
+        SPRINGS,
+        "refused: points.csv row 1, column 0: too large\n",
+    ),
+    (
+        "x,f\n\n0,0\n\n\n0\n",
+        SPRINGS,
+        "refused: points.csv row 2: width\n",
+    ),
 ];
 
 #[test]

@@ -85,7 +85,7 @@ static WORDS: [(&[&str], Status, &str); 28] = [
     (
         &["run", "a.sim", "a.sim"],
         Status::Refused,
-        "refused: a.sim: table\n",
+        "refused: a.sim row 0, column 0: header\n",
     ),
     (
         &["run", "points.csv", "points.csv"],
