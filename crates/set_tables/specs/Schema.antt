@@ -1,7 +1,7 @@
 -- What a set's table has to look like, and which sets have such a table.
 use Rattle.std.specs.Prelude.{◌≡◌, ◌≤◌, ◌<◌, ◌^◌, ℕ, List, ◌++◌, map, length, All, codes, decimal}
 use Rattle.std.specs.List.{range_with_len}
-use Rattle.vocabulary.specs.declared.limits.TheConstants.{MOST_ENDPOINTS}
+use Rattle.vocabulary.specs.declared.limits.TheConstants.{MOST_ENDPOINTS, MOST_FIELD_SCALE}
 use Rattle.hypergraph.specs.SetValue.{SetValue}
 use Rattle.set_tables.specs.declared.schema.Column.{Column}
 use Rattle.set_tables.specs.declared.schema.Schema.{Schema}
@@ -21,10 +21,10 @@ column_headings columns = map (λ column. column.heading) columns
 abbrev pub headings : Schema → List (List ℕ)
 headings schema = endpoint_headings schema.arity ++ column_headings schema.columns
 
--- the schemas that can be read and written: columns of whole numbers, and texts shorter than 2^32 bytes
+-- the schemas that can be read and written: scales that a field may have, and texts shorter than 2^32 bytes
 pub record IsSchema (schema : Schema) : Type 0 where
   pub few_endpoints : schema.arity ≤ MOST_ENDPOINTS
-  pub whole_numbers : All (λ column. column.scale ≡ 0) schema.columns
+  pub scales : All (λ column. column.scale ≤ MOST_FIELD_SCALE) schema.columns
   pub short_name : length schema.name < 2 ^ 32
   pub short_headings : All (λ column. length column.heading < 2 ^ 32) schema.columns
 

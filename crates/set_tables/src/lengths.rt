@@ -1,6 +1,6 @@
 //! The length of a table's text.
 ghost use Rattle.std.specs.Prelude.{◌≡◌, ◌≤◌, ◌<◌, ◌+◌, ◌*◌, ◌^◌, All, length};
-ghost use Rattle.vocabulary.specs.declared.limits.TheConstants.{MOST_COLUMNS, MOST_ELEMENTS, MOST_ENDPOINTS};
+ghost use Rattle.vocabulary.specs.declared.limits.TheConstants.{MOST_COLUMNS, MOST_ELEMENTS, MOST_ENDPOINTS, MOST_FIELD_SCALE};
 ghost use Rattle.hypergraph.specs.Sets.{set_at};
 ghost use Rattle.set_tables.specs.Schema.{Fits, IsSchema, endpoint_heading};
 ghost use Rattle.set_tables.specs.Output.{name_line, table_text};
@@ -117,7 +117,7 @@ fn columns_len(columns: &[Column], sets: &Sets, set: u32) -> usize
     requires set { set < length sets.now }
     requires as_many { length (set_at sets.now set).columns ≡ length columns.now }
     requires few_elements { (set_at sets.now set).count ≤ MOST_ELEMENTS }
-    requires whole_numbers { All (λ column. column.scale ≡ 0) columns.now }
+    requires scales { All (λ column. column.scale ≤ MOST_FIELD_SCALE) columns.now }
     ensures value { result ≡ columns_size columns.now (set_at sets.now set).columns }
     ensures one_each { All (λ words. length words ≡ (set_at sets.now set).count) (set_at sets.now set).columns }
     ensures bound { result ≤ MOST_COLUMNS * (MOST_ELEMENTS * 21) }
@@ -132,7 +132,7 @@ fn columns_len(columns: &[Column], sets: &Sets, set: u32) -> usize
 
 /// The length of the cells of a column.
 fn column_len(scale: u32, words: &[u64]) -> usize
-    requires whole_numbers { scale ≡ 0 }
+    requires scale { scale ≤ MOST_FIELD_SCALE }
     requires few { length words.now ≤ MOST_ELEMENTS }
     ensures value { result ≡ column_size scale words.now }
     ensures bound { result ≤ MOST_ELEMENTS * 21 }

@@ -1,7 +1,7 @@
 //! Reading a table.
 ghost use Rattle.std.specs.Prelude.{◌≡◌, ◌≤◌, ◌<◌, ◌+◌, ◌^◌, ◌↔◌, [], All, IsNone, MatchResult, Ok, length, replicate};
 ghost use Rattle.vocabulary.specs.Answers.{Answers};
-ghost use Rattle.vocabulary.specs.declared.limits.TheConstants.{MOST_COLUMNS, MOST_ELEMENTS, MOST_TABLE_BYTES};
+ghost use Rattle.vocabulary.specs.declared.limits.TheConstants.{MOST_COLUMNS, MOST_ELEMENTS, MOST_FIELD_SCALE, MOST_TABLE_BYTES};
 ghost use Rattle.hypergraph.specs.SetValue.{EndpointsBelow, IsSetData, SetValue};
 ghost use Rattle.set_tables.specs.Schema.{Fits, IsSchema};
 ghost use Rattle.set_tables.specs.Table.{element_of, elements_from, endpoint_of, endpoints_of, header_of, set_stated, table_set, word_of, words_of};
@@ -209,7 +209,7 @@ fn read_endpoint(cell: &[u8], bound: u32, row: u32, column: u32) -> Result<u32, 
 
 /// The word that the cell at a row and a column states at a scale.
 fn read_word(cell: &[u8], scale: u32, row: u32, column: u32) -> Result<u64, TableFault>
-    requires whole_number { scale ≡ 0 }
+    requires scale { scale ≤ MOST_FIELD_SCALE }
     requires short { length cell.now < 2 ^ 32 }
     ensures { result ≡ word_of row column scale cell.now }
 {
@@ -227,7 +227,7 @@ fn read_words(
     row: u32,
     columns: &mut Vec<L<u64>>,
 ) -> Result<(), TableFault>
-    requires whole_numbers { All (λ column. column.scale ≡ 0) schema.now }
+    requires scales { All (λ column. column.scale ≤ MOST_FIELD_SCALE) schema.now }
     requires few_columns { arity + length schema.now ≤ MOST_COLUMNS }
     requires width { length records.now.row ≡ arity + length schema.now }
     requires short { AreShort records.now.row }

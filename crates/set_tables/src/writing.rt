@@ -1,7 +1,7 @@
 //! Writing a table.
 ghost use Rattle.std.specs.Prelude.{◌≡◌, ◌≤◌, ◌<◌, ◌+◌, ◌*◌, ◌^◌, ◌++◌, ◌∷◌, [], All, length, map, take, slice_index, vec_len, vec_capacity};
 ghost use Rattle.vocabulary.specs.Buffer.{Appends};
-ghost use Rattle.vocabulary.specs.declared.limits.TheConstants.{MOST_COLUMNS, MOST_ENDPOINTS};
+ghost use Rattle.vocabulary.specs.declared.limits.TheConstants.{MOST_COLUMNS, MOST_ENDPOINTS, MOST_FIELD_SCALE};
 ghost use Rattle.hypergraph.specs.SetValue.{endpoint_at};
 ghost use Rattle.hypergraph.specs.Sets.{set_at};
 ghost use Rattle.ring_words.specs.Cell.{text};
@@ -157,7 +157,7 @@ fn write_endpoints(arity: u32, sets: &Sets, set: u32, element: u32, to: &mut Vec
 /// Appends the words of an element, as a line goes on with them after so many endpoints.
 fn write_words(arity: u32, columns: &[Column], words: &[&[u64]], element: u32, to: &mut Vec<u8>)
     requires few { arity ≤ MOST_ENDPOINTS }
-    requires whole_numbers { All (λ column. column.scale ≡ 0) columns.now }
+    requires scales { All (λ column. column.scale ≤ MOST_FIELD_SCALE) columns.now }
     requires as_many { length words.now ≡ length columns.now }
     requires element { All (λ column. element < length column.now) words.now }
     requires capacity { vec_len to.old + length (words_text arity columns.now (map (λ column. column.now) words.now) element) ≤ vec_capacity to.old }
@@ -172,7 +172,7 @@ fn write_words(arity: u32, columns: &[Column], words: &[&[u64]], element: u32, t
 /// Appends the text of a word at a scale as the cell of a column, and before it what parts it from the last.
 #[inline]
 fn write_word(column: usize, scale: u32, word: u64, to: &mut Vec<u8>)
-    requires whole_number { scale ≡ 0 }
+    requires scale { scale ≤ MOST_FIELD_SCALE }
     requires capacity { vec_len to.old + length (separated column (text scale word)) ≤ vec_capacity to.old }
     ensures { Appends to.old to.new (separated column (text scale word)) }
 {

@@ -1,6 +1,7 @@
 -- A program of one of the forms can be run.
-use Rattle.std.proofs.Common.{◌≡◌, ◌<◌, ◌^◌, ℕ, List, length, get_or, refl, arith}
+use Rattle.std.proofs.Common.{◌≤◌, ◌<◌, ◌^◌, ℕ, List, length, get_or, arith}
 use Rattle.std.proofs.lemmas.List.Elements.{All-map}
+use Rattle.vocabulary.specs.declared.limits.TheConstants.{MOST_FIELD_SCALE}
 use Rattle.set_tables.specs.declared.schema.Column.{Column}
 use Rattle.global_algebra.specs.Fits.{IsWellFormed}
 use Rattle.global_algebra.specs.declared.program.Program.{Program}
@@ -20,7 +21,7 @@ is_readable declared small =
     record {
       schema = record {
         few_endpoints = arity;
-        whole_numbers = All-map (λ (c : Column). c.scale ≡ 0) column declared.fields (λ k d l. refl);
+        scales = All-map (λ (c : Column). c.scale ≤ MOST_FIELD_SCALE) column declared.fields (λ k d l. omega arith);
         short_name = omega arith;
         short_headings = All-map (λ (c : Column). length c.heading < 2 ^ 32) column declared.fields (λ k d l. let short = small.fields.short k d l in omega arith);
       };

@@ -1,6 +1,6 @@
 //! Tables of points and of springs between them: the texts of the sets that they state, and the first faults of others.
 ghost use Rattle.std.specs.Prelude.{◌≡◌, ◌≤◌, ◌<◌, IfOk, length};
-ghost use Rattle.vocabulary.specs.declared.limits.TheConstants.{MOST_SETS};
+ghost use Rattle.vocabulary.specs.declared.limits.TheConstants.{MOST_FIELD_SCALE, MOST_SETS};
 ghost use Rattle.hypergraph.specs.Sets.{AllLieOverEarlier, set_at};
 ghost use Rattle.set_tables.specs.Schema.{Fits, IsSchema};
 
@@ -10,15 +10,16 @@ use std::alloc::{AllocError, Global};
 use std::test::Fail;
 use vocabulary::{L, Text};
 
-/// A column of whole numbers.
-fn column(alloc: Global, heading: &'static str) -> Result<Column, AllocError>
-    requires { length heading.now ≤ 8 }
-    ensures scale { IfOk result (λ column. column.scale ≡ 0) }
+/// A column of a scale.
+fn column(alloc: Global, heading: &'static str, scale: u32) -> Result<Column, AllocError>
+    requires heading { length heading.now ≤ 8 }
+    requires scale { scale ≤ MOST_FIELD_SCALE }
+    ensures scale { IfOk result (λ column. column.scale ≤ MOST_FIELD_SCALE) }
     ensures heading { IfOk result (λ column. length column.heading ≤ 8) }
 {
     Ok(Column {
         heading: Text::of(String::from_str(alloc, heading)?),
-        scale: 0,
+        scale,
     })
 }
 
@@ -28,7 +29,21 @@ fn points(alloc: Global) -> Result<Schema, AllocError>
     ensures arity { IfOk result (λ schema. schema.arity ≡ 0) }
     ensures columns { IfOk result (λ schema. length schema.columns ≡ 2) }
 {
-    let columns = vec![in alloc; column(alloc, "x")?, column(alloc, "f")?]?;
+    let columns = vec![in alloc; column(alloc, "x", 0)?, column(alloc, "f", 0)?]?;
+    Ok(Schema {
+        name: Text::of(String::from_str(alloc, "points")?),
+        arity: 0,
+        columns: L::of(columns),
+    })
+}
+
+/// Points with a column of scale 2 and one of scale 18, as entries of blocks have them.
+fn scaled(alloc: Global) -> Result<Schema, AllocError>
+    ensures schema { IfOk result (λ schema. IsSchema schema) }
+    ensures arity { IfOk result (λ schema. schema.arity ≡ 0) }
+    ensures columns { IfOk result (λ schema. length schema.columns ≡ 2) }
+{
+    let columns = vec![in alloc; column(alloc, "x.0", 2)?, column(alloc, "m.1.0", 18)?]?;
     Ok(Schema {
         name: Text::of(String::from_str(alloc, "points")?),
         arity: 0,
@@ -42,7 +57,7 @@ fn springs(alloc: Global) -> Result<Schema, AllocError>
     ensures arity { IfOk result (λ schema. schema.arity ≡ 2) }
     ensures columns { IfOk result (λ schema. length schema.columns ≡ 1) }
 {
-    let columns = vec![in alloc; column(alloc, "k")?]?;
+    let columns = vec![in alloc; column(alloc, "k", 0)?]?;
     Ok(Schema {
         name: Text::of(String::from_str(alloc, "springs")?),
         arity: 2,
@@ -168,6 +183,40 @@ static POINTS: [(&[u8], &str); 47] = [
     (b"x,f\n3,\nx,4\n", "row 1, column 1: empty cell"),
 ];
 
+/// Tables of points with decimals, and the texts of their sets or their first faults.
+static SCALED: [(&[u8], &str); 12] = [
+    (
+        b"x.0,m.1.0\n1.5,0\n 1.50 ,-9.223372036854775808\n-0.05,1\n",
+        "set points\nx.0,m.1.0\n1.50,0.000000000000000000\n1.50,-9.223372036854775808\n-0.05,1.000000000000000000\n",
+    ),
+    (
+        b" x.0 , m.1.0\n1.500,9.2233720368547758070\n-0.00,-.5\n",
+        "row 2, column 1: bad byte at 1",
+    ),
+    (
+        b"x.0,m.1.0\n92233720368547758.07,0.000000000000000001\n",
+        "set points\nx.0,m.1.0\n92233720368547758.07,0.000000000000000001\n",
+    ),
+    (
+        b"x.0,m.1.0\n1.501,0\n",
+        "row 1, column 0: too many decimals",
+    ),
+    (
+        b"x.0,m.1.0\n1,0.0000000000000000001\n",
+        "row 1, column 1: too many decimals",
+    ),
+    (b"x.0,m.1.0\n.5,0\n", "row 1, column 0: bad byte at 0"),
+    (b"x.0,m.1.0\n5.,0\n", "row 1, column 0: bad byte at 2"),
+    (b"x.0,m.1.0\n1e-5,0\n", "row 1, column 0: bad byte at 1"),
+    (
+        b"x.0,m.1.0\n92233720368547758.08,0\n",
+        "row 1, column 0: too large",
+    ),
+    (b"x.0,m.1.0\n1,10\n", "row 1, column 1: too large"),
+    (b"x.0,m.0.1\n1,2\n", "column 1: not the heading"),
+    (b"x.0,m.1.0\n,\n", "row 1, column 0: empty cell"),
+];
+
 /// How many points there are, a table of springs between them, and the text or the fault.
 static SPRINGS: [(u32, &[u8], &str); 25] = [
     (
@@ -234,6 +283,17 @@ static SPRINGS: [(u32, &[u8], &str); 25] = [
 fn tables_of_points(rt: HostRuntime) -> Result<(), Fail> {
     let schema = points(rt.alloc())?;
     for (bytes, want) in &POINTS {
+        assert!(rt; bytes.len() <= 1000);
+        let text = points_text(rt.alloc(), &schema, bytes)?;
+        assert!(rt; text.as_slice() == want.as_bytes(), "not {want:?}");
+    }
+    Ok(())
+}
+
+#[test]
+fn tables_of_points_with_decimals(rt: HostRuntime) -> Result<(), Fail> {
+    let schema = scaled(rt.alloc())?;
+    for (bytes, want) in &SCALED {
         assert!(rt; bytes.len() <= 1000);
         let text = points_text(rt.alloc(), &schema, bytes)?;
         assert!(rt; text.as_slice() == want.as_bytes(), "not {want:?}");
