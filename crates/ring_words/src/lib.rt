@@ -1,5 +1,5 @@
-//! Words modulo 2^64 and the cells that write them in tables. The list and text types of `vocabulary`, in which
-//! contracts see a `Vec` and a `String`, are to be had from here too.
+//! Words modulo 2^64, at their scales, and the cells that write them in tables. The list and text types of `vocabulary`,
+//! in which contracts see a `Vec` and a `String`, are to be had from here too.
 #![tactic(auto)]
 
 mod arithmetic;
