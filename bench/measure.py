@@ -1,5 +1,5 @@
 """Runs the three programs of a job by turns over both of its inputs and prints what each took. Started by
-table.sh and springs.sh, which make the inputs and the C program in work/.
+job.sh, which makes the inputs and the C program in work/.
 
 Usage: python3 measure.py JOB SIMIT PYTHON ROUNDS
 """
@@ -16,11 +16,11 @@ INPUTS = ["whole", "quarter"]
 
 
 class Job:
-    """What is run: the simit program, and the tables of each input with their numbers of columns."""
+    """What is run: the words before the tables, and the tables of each input with their numbers of columns."""
 
-    def __init__(self, name, program, tables, columns, python):
+    def __init__(self, name, words, tables, columns, python):
         self.name = name
-        self.program = f"work/{program}"
+        self.words = words
         self.tables = tables
         self.columns = columns
         self.python = python
@@ -36,8 +36,9 @@ class Job:
 
 
 JOBS = {
-    "table": Job("table", "four.sim", ["points"], [2], ["-I", "-S", "table.py"]),
-    "springs": Job("springs", "pull.sim", ["points", "springs"], [2, 3], ["springs.py"]),
+    "table": Job("table", ["run", "work/four.sim"], ["points"], [2], ["-I", "-S", "table.py"]),
+    "springs": Job("springs", ["run", "work/pull.sim"], ["points", "springs"], [2, 3], ["springs.py"]),
+    "scales": Job("scales", [], ["decimal-points", "decimal-springs"], [2, 3], ["-I", "-S", "scales.py"]),
 }
 
 
@@ -183,7 +184,7 @@ def main():
     job, simit_path, python_path, rounds = JOBS[sys.argv[1]], sys.argv[2], sys.argv[3], int(sys.argv[4])
     programs = [
         Program(job, "C", [os.path.abspath(f"work/{job.name}")]),
-        Program(job, "simit", [simit_path, "run", job.program]),
+        Program(job, "simit", [simit_path, *job.words]),
         Program(job, "Python", [python_path, *job.python]),
     ]
     system = os.uname()
