@@ -1,11 +1,1 @@
-pub mod Repeat
-pub mod Makers
-pub mod Nesting
-pub mod Starts
-pub mod Agree
-pub mod AgreeParts
-pub mod AgreeLists
-pub mod ExpressionsAgree
-pub mod StatementsAgree
-pub mod DeclarationsAgree
-pub mod Law
+pub mod Answering

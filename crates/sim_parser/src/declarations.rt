@@ -1,20 +1,18 @@
 //! Declarations.
 
-ghost use Rattle.sim_parser.specs.ReadProgram as spec;
-ghost use Rattle.sim_parser.specs.ReadExpressions.{all_names};
-ghost use Rattle.sim_parser.specs.Read.{Reads};
+ghost use Rattle.sim_grammar.specs.ReadProgram as spec;
+ghost use Rattle.sim_grammar.specs.ReadExpressions.{all_names};
+ghost use Rattle.token_cursor.specs.Reads.{Reads};
 
-use crate::cursor::Cursor;
-use crate::functions::func_body;
-use crate::halt::Halt;
-use crate::lists::{each, separated};
 use sim_lexer::{TokenKind, keyword, symbol};
 use sim_syntax::{Decl, Field, Local, Name, Num, Param, ParamKind, ResultDecl};
 use sqlite_items::Items;
+use statement_parser::func_body;
 use std::alloc::Global;
+use token_cursor::{Cursor, Halt, each, separated};
 
 /// Names with commas between.
-#[tactic(auto, unfolding(crate::specs::ReadExpressions::all_names))]
+#[tactic(auto, unfolding(sim_grammar::specs::ReadExpressions::all_names))]
 fn all_names(alloc: Global, cursor: &mut Cursor<'_>) -> Result<Items<Name>, Halt>
     ensures { Reads (all_names cursor.old) result cursor.new }
 {
@@ -24,7 +22,7 @@ fn all_names(alloc: Global, cursor: &mut Cursor<'_>) -> Result<Items<Name>, Halt
 }
 
 /// A whole number's type: its scale.
-#[tactic(auto, unfolding(crate::specs::ReadProgram::int))]
+#[tactic(auto, unfolding(sim_grammar::specs::ReadProgram::int))]
 fn int(alloc: Global, cursor: &mut Cursor<'_>) -> Result<Num, Halt>
     ensures { Reads (spec.int cursor.old) result cursor.new }
 {
@@ -38,7 +36,7 @@ fn int(alloc: Global, cursor: &mut Cursor<'_>) -> Result<Num, Halt>
 }
 
 /// A number.
-#[tactic(auto, unfolding(crate::specs::ReadProgram::int_local))]
+#[tactic(auto, unfolding(sim_grammar::specs::ReadProgram::int_local))]
 fn int_local(alloc: Global, cursor: &mut Cursor<'_>) -> Result<Local, Halt>
     ensures { Reads (spec.int_local cursor.old) result cursor.new }
 {
@@ -48,7 +46,7 @@ fn int_local(alloc: Global, cursor: &mut Cursor<'_>) -> Result<Local, Halt>
 }
 
 /// A vector.
-#[tactic(auto, unfolding(crate::specs::ReadProgram::vector_local))]
+#[tactic(auto, unfolding(sim_grammar::specs::ReadProgram::vector_local))]
 fn vector_local(alloc: Global, cursor: &mut Cursor<'_>) -> Result<Local, Halt>
     ensures { Reads (spec.vector_local cursor.old) result cursor.new }
 {
@@ -68,7 +66,7 @@ fn vector_local(alloc: Global, cursor: &mut Cursor<'_>) -> Result<Local, Halt>
 }
 
 /// A matrix.
-#[tactic(auto, unfolding(crate::specs::ReadProgram::matrix_local))]
+#[tactic(auto, unfolding(sim_grammar::specs::ReadProgram::matrix_local))]
 fn matrix_local(alloc: Global, cursor: &mut Cursor<'_>) -> Result<Local, Halt>
     ensures { Reads (spec.matrix_local cursor.old) result cursor.new }
 {
@@ -95,7 +93,7 @@ fn matrix_local(alloc: Global, cursor: &mut Cursor<'_>) -> Result<Local, Halt>
 }
 
 /// What a field or a block is made of.
-#[tactic(auto, unfolding(crate::specs::ReadProgram::local))]
+#[tactic(auto, unfolding(sim_grammar::specs::ReadProgram::local))]
 fn local(alloc: Global, cursor: &mut Cursor<'_>) -> Result<Local, Halt>
     ensures { Reads (spec.local cursor.old) result cursor.new }
 {
@@ -109,7 +107,7 @@ fn local(alloc: Global, cursor: &mut Cursor<'_>) -> Result<Local, Halt>
 }
 
 /// A scalar parameter.
-#[tactic(auto, unfolding(crate::specs::ReadProgram::int_kind))]
+#[tactic(auto, unfolding(sim_grammar::specs::ReadProgram::int_kind))]
 fn int_kind(alloc: Global, cursor: &mut Cursor<'_>) -> Result<ParamKind, Halt>
     ensures { Reads (spec.int_kind cursor.old) result cursor.new }
 {
@@ -119,7 +117,7 @@ fn int_kind(alloc: Global, cursor: &mut Cursor<'_>) -> Result<ParamKind, Halt>
 }
 
 /// An element as a parameter.
-#[tactic(auto, unfolding(crate::specs::ReadProgram::element_kind))]
+#[tactic(auto, unfolding(sim_grammar::specs::ReadProgram::element_kind))]
 fn element_kind(alloc: Global, cursor: &mut Cursor<'_>) -> Result<ParamKind, Halt>
     ensures { Reads (spec.element_kind cursor.old) result cursor.new }
 {
@@ -129,7 +127,7 @@ fn element_kind(alloc: Global, cursor: &mut Cursor<'_>) -> Result<ParamKind, Hal
 }
 
 /// Endpoints as a parameter.
-#[tactic(auto, unfolding(crate::specs::ReadProgram::ends_kind))]
+#[tactic(auto, unfolding(sim_grammar::specs::ReadProgram::ends_kind))]
 fn ends_kind(alloc: Global, cursor: &mut Cursor<'_>) -> Result<ParamKind, Halt>
     ensures { Reads (spec.ends_kind cursor.old) result cursor.new }
 {
@@ -147,7 +145,7 @@ fn ends_kind(alloc: Global, cursor: &mut Cursor<'_>) -> Result<ParamKind, Halt>
 }
 
 /// What a parameter stands for.
-#[tactic(auto, unfolding(crate::specs::ReadProgram::param_kind))]
+#[tactic(auto, unfolding(sim_grammar::specs::ReadProgram::param_kind))]
 fn param_kind(alloc: Global, cursor: &mut Cursor<'_>) -> Result<ParamKind, Halt>
     ensures { Reads (spec.param_kind cursor.old) result cursor.new }
 {
@@ -161,7 +159,7 @@ fn param_kind(alloc: Global, cursor: &mut Cursor<'_>) -> Result<ParamKind, Halt>
 }
 
 /// A parameter.
-#[tactic(auto, unfolding(crate::specs::ReadProgram::param))]
+#[tactic(auto, unfolding(sim_grammar::specs::ReadProgram::param))]
 fn param(alloc: Global, cursor: &mut Cursor<'_>) -> Result<Param, Halt>
     ensures { Reads (spec.param cursor.old) result cursor.new }
 {
@@ -173,7 +171,7 @@ fn param(alloc: Global, cursor: &mut Cursor<'_>) -> Result<Param, Halt>
 }
 
 /// Parameters with commas between.
-#[tactic(auto, unfolding(crate::specs::ReadProgram::params))]
+#[tactic(auto, unfolding(sim_grammar::specs::ReadProgram::params))]
 fn params(alloc: Global, cursor: &mut Cursor<'_>) -> Result<Items<Param>, Halt>
     ensures { Reads (spec.params cursor.old) result cursor.new }
 {
@@ -183,7 +181,7 @@ fn params(alloc: Global, cursor: &mut Cursor<'_>) -> Result<Items<Param>, Halt>
 }
 
 /// The rows and the block of a vector.
-#[tactic(auto, unfolding(crate::specs::ReadProgram::vector_shape))]
+#[tactic(auto, unfolding(sim_grammar::specs::ReadProgram::vector_shape))]
 fn vector_shape(
     alloc: Global,
     cursor: &mut Cursor<'_>,
@@ -205,7 +203,7 @@ fn vector_shape(
 }
 
 /// The rows, the columns and the block of a matrix.
-#[tactic(auto, unfolding(crate::specs::ReadProgram::matrix_shape))]
+#[tactic(auto, unfolding(sim_grammar::specs::ReadProgram::matrix_shape))]
 fn matrix_shape(
     alloc: Global,
     cursor: &mut Cursor<'_>,
@@ -229,7 +227,7 @@ fn matrix_shape(
 }
 
 /// The sets and the block of a result.
-#[tactic(auto, unfolding(crate::specs::ReadProgram::shape))]
+#[tactic(auto, unfolding(sim_grammar::specs::ReadProgram::shape))]
 fn shape(alloc: Global, cursor: &mut Cursor<'_>) -> Result<(Name, (Option<Name>, Local)), Halt>
     ensures { Reads (spec.shape cursor.old) result cursor.new }
 {
@@ -241,7 +239,7 @@ fn shape(alloc: Global, cursor: &mut Cursor<'_>) -> Result<(Name, (Option<Name>,
 }
 
 /// A result.
-#[tactic(auto, unfolding(crate::specs::ReadProgram::result))]
+#[tactic(auto, unfolding(sim_grammar::specs::ReadProgram::result))]
 fn result_decl(alloc: Global, cursor: &mut Cursor<'_>) -> Result<ResultDecl, Halt>
     ensures { Reads (spec.result cursor.old) result cursor.new }
 {
@@ -259,7 +257,7 @@ fn result_decl(alloc: Global, cursor: &mut Cursor<'_>) -> Result<ResultDecl, Hal
 }
 
 /// Results with commas between.
-#[tactic(auto, unfolding(crate::specs::ReadProgram::results))]
+#[tactic(auto, unfolding(sim_grammar::specs::ReadProgram::results))]
 fn results(alloc: Global, cursor: &mut Cursor<'_>) -> Result<Items<ResultDecl>, Halt>
     ensures { Reads (spec.results cursor.old) result cursor.new }
 {
@@ -269,7 +267,7 @@ fn results(alloc: Global, cursor: &mut Cursor<'_>) -> Result<Items<ResultDecl>, 
 }
 
 /// A field.
-#[tactic(auto, unfolding(crate::specs::ReadProgram::field))]
+#[tactic(auto, unfolding(sim_grammar::specs::ReadProgram::field))]
 fn field(alloc: Global, cursor: &mut Cursor<'_>) -> Result<Field, Halt>
     ensures { Reads (spec.field cursor.old) result cursor.new }
 {
@@ -282,7 +280,7 @@ fn field(alloc: Global, cursor: &mut Cursor<'_>) -> Result<Field, Halt>
 }
 
 /// The fields of an element type.
-#[tactic(auto, unfolding(crate::specs::ReadProgram::fields))]
+#[tactic(auto, unfolding(sim_grammar::specs::ReadProgram::fields))]
 fn fields(alloc: Global, cursor: &mut Cursor<'_>) -> Result<Items<Field>, Halt>
     ensures { Reads (spec.fields cursor.old) result cursor.new }
 {
@@ -291,7 +289,7 @@ fn fields(alloc: Global, cursor: &mut Cursor<'_>) -> Result<Items<Field>, Halt>
 }
 
 /// An element type.
-#[tactic(auto, unfolding(crate::specs::ReadProgram::element))]
+#[tactic(auto, unfolding(sim_grammar::specs::ReadProgram::element))]
 fn element(alloc: Global, cursor: &mut Cursor<'_>) -> Result<Decl, Halt>
     ensures { Reads (spec.element cursor.old) result cursor.new }
 {
@@ -304,7 +302,7 @@ fn element(alloc: Global, cursor: &mut Cursor<'_>) -> Result<Decl, Halt>
 }
 
 /// The sets of endpoints in parentheses, where there are any.
-#[tactic(auto, unfolding(crate::specs::ReadProgram::maybe_ends, crate::specs::ReadProgram::ends, crate::specs::Read::skip))]
+#[tactic(auto, unfolding(sim_grammar::specs::ReadProgram::maybe_ends, sim_grammar::specs::ReadProgram::ends, sim_grammar::specs::Read::skip))]
 fn maybe_ends(alloc: Global, cursor: &mut Cursor<'_>) -> Result<Items<Name>, Halt>
     ensures { Reads (spec.maybe_ends cursor.old) result cursor.new }
 {
@@ -318,7 +316,7 @@ fn maybe_ends(alloc: Global, cursor: &mut Cursor<'_>) -> Result<Items<Name>, Hal
 }
 
 /// A set, after `extern`, whose line is told.
-#[tactic(auto, unfolding(crate::specs::ReadProgram::set))]
+#[tactic(auto, unfolding(sim_grammar::specs::ReadProgram::set))]
 fn set(alloc: Global, cursor: &mut Cursor<'_>, line: u32) -> Result<Decl, Halt>
     ensures { Reads (spec.set line cursor.old) result cursor.new }
 {
@@ -341,7 +339,7 @@ fn set(alloc: Global, cursor: &mut Cursor<'_>, line: u32) -> Result<Decl, Halt>
 }
 
 /// Scales of whole numbers, with commas between.
-#[tactic(auto, unfolding(crate::specs::ReadProgram::ints))]
+#[tactic(auto, unfolding(sim_grammar::specs::ReadProgram::ints))]
 fn ints(alloc: Global, cursor: &mut Cursor<'_>) -> Result<Items<Num>, Halt>
     ensures { Reads (spec.ints cursor.old) result cursor.new }
 {
@@ -351,7 +349,7 @@ fn ints(alloc: Global, cursor: &mut Cursor<'_>) -> Result<Items<Num>, Halt>
 }
 
 /// A host function, after `extern`, whose line is told.
-#[tactic(auto, unfolding(crate::specs::ReadProgram::host))]
+#[tactic(auto, unfolding(sim_grammar::specs::ReadProgram::host))]
 fn host(alloc: Global, cursor: &mut Cursor<'_>, line: u32) -> Result<Decl, Halt>
     ensures { Reads (spec.host line cursor.old) result cursor.new }
 {
@@ -374,7 +372,7 @@ fn host(alloc: Global, cursor: &mut Cursor<'_>, line: u32) -> Result<Decl, Halt>
 }
 
 /// A set or a host function.
-#[tactic(auto, unfolding(crate::specs::ReadProgram::extern_decl))]
+#[tactic(auto, unfolding(sim_grammar::specs::ReadProgram::extern_decl))]
 fn extern_decl(alloc: Global, cursor: &mut Cursor<'_>) -> Result<Decl, Halt>
     ensures { Reads (spec.extern_decl cursor.old) result cursor.new }
 {
@@ -388,7 +386,7 @@ fn extern_decl(alloc: Global, cursor: &mut Cursor<'_>) -> Result<Decl, Halt>
 }
 
 /// A function.
-#[tactic(auto, unfolding(crate::specs::ReadProgram::func))]
+#[tactic(auto, unfolding(sim_grammar::specs::ReadProgram::func))]
 fn func(alloc: Global, cursor: &mut Cursor<'_>, depth: usize) -> Result<Decl, Halt>
     ensures { Reads (spec.func depth cursor.old) result cursor.new }
 {
@@ -416,7 +414,7 @@ fn func(alloc: Global, cursor: &mut Cursor<'_>, depth: usize) -> Result<Decl, Ha
 }
 
 /// A declaration.
-#[tactic(auto, unfolding(crate::specs::ReadProgram::declaration))]
+#[tactic(auto, unfolding(sim_grammar::specs::ReadProgram::declaration))]
 fn declaration(alloc: Global, cursor: &mut Cursor<'_>, depth: usize) -> Result<Decl, Halt>
     ensures { Reads (spec.declaration depth cursor.old) result cursor.new }
 {
@@ -430,7 +428,7 @@ fn declaration(alloc: Global, cursor: &mut Cursor<'_>, depth: usize) -> Result<D
 }
 
 /// The declarations of a program.
-#[tactic(auto, unfolding(crate::specs::ReadProgram::declarations))]
+#[tactic(auto, unfolding(sim_grammar::specs::ReadProgram::declarations))]
 pub fn declarations(
     alloc: Global,
     cursor: &mut Cursor<'_>,

@@ -5,20 +5,20 @@ ghost use Rattle.std.specs.Result.{result_map_both};
 ghost use Rattle.vocabulary.specs.Answers.{Answers};
 ghost use Rattle.sim_lexer.specs.Tokens.{EndsOnce, IsSpelled, LiesIn};
 ghost use Rattle.sim_lexer.specs.Words.{words_of};
-ghost use Rattle.sim_parser.specs.Grammar.{Derives, IsPlace, IsUnambiguous};
-ghost use Rattle.sim_parser.specs.ReadProgram as spec;
-ghost use Rattle.sim_parser.specs.Cursor.{AreOf};
-ghost use Rattle.sim_parser.specs.Read.{Reads};
+ghost use Rattle.sim_grammar.specs.Grammar.{Derives, IsPlace, IsUnambiguous};
+ghost use Rattle.sim_grammar.specs.ReadProgram as spec;
+ghost use Rattle.token_cursor.specs.Cursor.{AreOf};
+ghost use Rattle.token_cursor.specs.Reads.{Reads};
 ghost use Rattle.sim_syntax.specs.declared.program.Program as tree;
 
-use crate::cursor::Cursor;
 use crate::declarations::declarations;
-use crate::halt::Halt;
-use crate::main_procedure::main_body;
+use sim_grammar::reading_law;
 use sim_lexer::{Token, TokenKind, Tokens, keyword};
 use sim_syntax::Program;
+use statement_parser::main_body;
 use std::alloc::Global;
 use thiserror::Error;
+use token_cursor::{Cursor, Halt};
 use vocabulary::limits::MOST_TOKENS;
 
 /// Why the tokens of a text have no tree.
@@ -33,7 +33,7 @@ pub enum ParseFault {
 }
 
 /// A program in which statements and expressions are nested less than so deep.
-#[tactic(auto, unfolding(crate::specs::ReadProgram::program))]
+#[tactic(auto, unfolding(sim_grammar::specs::ReadProgram::program))]
 fn program(alloc: Global, cursor: &mut Cursor<'_>, depth: usize) -> Result<Program, Halt>
     ensures { Reads (spec.program depth cursor.old) result cursor.new }
 {
@@ -49,7 +49,7 @@ fn program(alloc: Global, cursor: &mut Cursor<'_>, depth: usize) -> Result<Progr
 }
 
 /// A program and the end of the text.
-#[tactic(auto, unfolding(crate::specs::ReadProgram::program_text))]
+#[tactic(auto, unfolding(sim_grammar::specs::ReadProgram::program_text))]
 fn program_text(alloc: Global, cursor: &mut Cursor<'_>, depth: usize) -> Result<Program, Halt>
     ensures { Reads (spec.program_text depth cursor.old) result cursor.new }
 {
@@ -59,12 +59,13 @@ fn program_text(alloc: Global, cursor: &mut Cursor<'_>, depth: usize) -> Result<
 }
 
 /// The program of these tokens, or the place where they stop being a cut of one.
-#[tactic(auto, unfolding(crate::specs::ReadProgram::program_in))]
+#[tactic(auto, unfolding(sim_grammar::specs::ReadProgram::program_in))]
 fn program_in(alloc: Global, source: &[u8], tokens: &[Token]) -> Result<Program, ParseFault>
     requires of { AreOf source.now tokens.now }
     requires few { length tokens.now ≤ MOST_TOKENS }
     ensures { Answers ParseFault.Memory (result_map_both (λ p. p) ParseFault.Syntax (spec.program_in (words_of source.now tokens.now))) result }
 {
+    reading_law();
     let mut cursor = Cursor::of(source, tokens);
     match program_text(alloc, &mut cursor, tokens.len()) {
         Ok(program) => Ok(program),
@@ -97,5 +98,6 @@ pub fn parse(alloc: Global, source: &[u8], tokens: &Tokens) -> Result<Program, P
     ensures reads_grammar { (p : tree.Program) → (spec.program_in (words_of source.now tokens.now) ≡ Ok p) ↔ Derives p (words_of source.now tokens.now) }
     ensures reads_place { (n : ℕ) → spec.program_in (words_of source.now tokens.now) ≡ Err n → IsPlace (words_of source.now tokens.now) n }
 {
+    reading_law();
     program_in(alloc, source, tokens.list())
 }

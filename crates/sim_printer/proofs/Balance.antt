@@ -12,8 +12,8 @@ use Rattle.sim_syntax.specs.declared.expression.Expr.TheFolds as folds
 use Rattle.sim_syntax.specs.declared.expression.Row as tree_row
 use Rattle.sim_syntax.specs.declared.expression.SumTerm as tree_term
 use Rattle.sim_syntax.specs.declared.expression.ProductFactor as tree_factor
-use Rattle.sim_parser.specs.Rule as rule
-use Rattle.sim_parser.specs.Trees.{Text}
+use Rattle.sim_grammar.specs.Rule as rule
+use Rattle.sim_grammar.specs.Trees.{Text}
 use Rattle.sim_printer.specs.Printed.{Phrase, Level, atom, transposed, product, fixed, number, separated, listed, in_parentheses, bracketed, at_level, is_looser, whole, field_words, factor_words, product_words, term_words, sum_words, whether, operator, sign, node, factor_of_node, row_words, term_of_node, expression, expression_words}
 use Rattle.sim_printer.specs.Printed.{row_phrase, factor_phrase, term_phrase}
 use Rattle.sim_printer.proofs.Lightness.{IsBalanced, balanced_append, balanced_around}

@@ -12,8 +12,8 @@ use Rattle.sim_syntax.specs.declared.expression.Expr.TheFolds as folds
 use Rattle.sim_syntax.specs.declared.expression.Row.{Row, roll-Row}
 use Rattle.sim_syntax.specs.declared.expression.SumTerm.{SumTerm, roll-SumTerm}
 use Rattle.sim_syntax.specs.declared.expression.ProductFactor.{ProductFactor, roll-ProductFactor}
-use Rattle.sim_parser.specs.Rule as rule
-use Rattle.sim_parser.specs.Trees.{Text}
+use Rattle.sim_grammar.specs.Rule as rule
+use Rattle.sim_grammar.specs.Trees.{Text}
 use Rattle.sim_printer.specs.FirstLine as first
 use Rattle.sim_printer.specs.Printed.{Phrase, atom, transposed, product, sum, phrase, fixed, name, number, separated, listed, in_parentheses, at_level, whole, field_words, product_words, sum_words, node, factor_of_node, row_words, term_of_node, row_phrase, factor_phrase, term_phrase, expression, expression_words}
 

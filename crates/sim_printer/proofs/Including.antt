@@ -3,7 +3,7 @@ use Rattle.std.proofs.Common.{ℕ, List, [], ◌∷◌, inl, inr}
 use Rattle.std.specs.Prelude.{◌⊎◌}
 use Rattle.sim_lexer.specs.Words.{Word}
 use Rattle.sim_lexer.specs.declared.token.TokenKind.{TokenKind}
-use Rattle.sim_parser.specs.Rule.{Rule, ◌⊗◌, ◌▸◌, ◌◂◌, StateEach, Each, ◌∣◌, Made, Node}
+use Rattle.sim_grammar.specs.Rule.{Rule, ◌⊗◌, ◌▸◌, ◌◂◌, StateEach, Each, ◌∣◌, Made, Node}
 
 pub record Includes {A : Type 0} (R S : Rule A) : Type 0 where
   pub states : (v : A) (ws : List Word) → R.states v ws → S.states v ws

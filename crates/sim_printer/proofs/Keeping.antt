@@ -6,7 +6,7 @@ use Rattle.std.proofs.lemmas.List.{length-append, length-map}
 use Rattle.sim_lexer.specs.Words.{Word}
 use Rattle.sim_lexer.specs.declared.token.TokenKind.{TokenKind}
 use Rattle.sim_lexer.specs.declared.token.TokenKind.TheVariants.{Name, Number, End}
-use Rattle.sim_parser.specs.Rule.{Rule, Are, Spelt, Joined, line_of, ◌⊗◌, ◌▸◌, ◌◂◌, StateEach, Each, ◌∣◌, Fixed, Made, Node, Separated, OneOrTwo, Maybe, MaybeSome, Whether}
+use Rattle.sim_grammar.specs.Rule.{Rule, Are, Spelt, Joined, line_of, ◌⊗◌, ◌▸◌, ◌◂◌, StateEach, Each, ◌∣◌, Fixed, Made, Node, Separated, OneOrTwo, Maybe, MaybeSome, Whether}
 use Rattle.sim_printer.specs.Printed.{fixed, word, whether, separated}
 use Rattle.sim_printer.proofs.Lightness.{IsLight, light_nothing, light_append, light_fixed, fixed_are, are_fixed, plain_line}
 

@@ -11,11 +11,11 @@ use Rattle.sim_syntax.specs.declared.condition.CmpOp.TheVariants as op
 use Rattle.sim_syntax.specs.declared.statement.Stmt.{Stmt}
 use Rattle.sim_syntax.specs.declared.statement.Right.{Right}
 use Rattle.sim_syntax.specs.declared.statement.IxTerm.{IxTerm}
-use Rattle.sim_parser.specs.Rule as rule
-use Rattle.sim_parser.specs.Rule.{Rule, ◌⊗◌, ◌▸◌, ◌◂◌, Each, ◌∣◌, Fixed, Made, Node, Separated, OneOrTwo, Maybe, MaybeSome, Whether}
-use Rattle.sim_parser.specs.Grammar as grammar
-use Rattle.sim_parser.specs.Grammar.{NAME, NUM, Comparison, Arguments}
-use Rattle.sim_parser.specs.Trees.{cmp_of, conjunction_of, cond_of, literal_of, named_of, place_of, target_of, map_of, value_of, ix_number_of, ix_named_of, ix_term_of, ix_of}
+use Rattle.sim_grammar.specs.Rule as rule
+use Rattle.sim_grammar.specs.Rule.{Rule, ◌⊗◌, ◌▸◌, ◌◂◌, Each, ◌∣◌, Fixed, Made, Node, Separated, OneOrTwo, Maybe, MaybeSome, Whether}
+use Rattle.sim_grammar.specs.Grammar as grammar
+use Rattle.sim_grammar.specs.Grammar.{NAME, NUM, Comparison, Arguments}
+use Rattle.sim_grammar.specs.Trees.{cmp_of, conjunction_of, cond_of, literal_of, named_of, place_of, target_of, map_of, value_of, ix_number_of, ix_named_of, ix_term_of, ix_of}
 use Rattle.sim_printer.specs.FirstLine as first
 use Rattle.sim_printer.specs.Printed.{fixed, name, separated, listed, whether, comparison, cmp_words, conjunction_words, cond_words, field_name, target_words, index_words, index_in_parentheses, place_words, ix_atom_words, ix_product_words, ix_term_words, ix_sum_words, right_words}
 use Rattle.sim_printer.proofs.Keeping.{Keeps, HasWords, keeps_both, keeps_after, keeps_before, keeps_each, keeps_either, keeps_fixed, keeps_as, keeps_made, keeps_node, keeps_name, keeps_number, keeps_separated, keeps_one_or_two, keeps_maybe, keeps_maybe_some, keeps_whether, words_first, words_second, words_node, words_after, words_before, words_either, words_spelt, words_separated}

@@ -10,11 +10,11 @@ use Rattle.sim_lexer.specs.declared.token.keyword.TheConstants as keyword
 use Rattle.sim_lexer.specs.declared.token.symbol.TheConstants as symbol
 use Rattle.sim_syntax.specs.declared.declaration.Decl.{Decl}
 use Rattle.sim_syntax.specs.declared.declaration.Local.{Local}
-use Rattle.sim_parser.specs.Rule as rule
-use Rattle.sim_parser.specs.Rule.{Rule, Are, Joined, line_of, ◌⊗◌, ◌▸◌, ◌◂◌, Each, ◌∣◌, Made, Node, Separated, MaybeSome}
-use Rattle.sim_parser.specs.Grammar as grammar
-use Rattle.sim_parser.specs.Grammar.{NAME, NUM, Int, FuncStatement, MainStatement}
-use Rattle.sim_parser.specs.Trees.{Text, int_of, vector_of, matrix_of, int_kind_of, element_kind_of, ends_kind_of, param_of, vector_result_of, matrix_result_of, result_of, field_of, element_of, set_of, host_of, func_of, program_of}
+use Rattle.sim_grammar.specs.Rule as rule
+use Rattle.sim_grammar.specs.Rule.{Rule, Are, Joined, line_of, ◌⊗◌, ◌▸◌, ◌◂◌, Each, ◌∣◌, Made, Node, Separated, MaybeSome}
+use Rattle.sim_grammar.specs.Grammar as grammar
+use Rattle.sim_grammar.specs.Grammar.{NAME, NUM, Int, FuncStatement, MainStatement}
+use Rattle.sim_grammar.specs.Trees.{Text, int_of, vector_of, matrix_of, int_kind_of, element_kind_of, ends_kind_of, param_of, vector_result_of, matrix_result_of, result_of, field_of, element_of, set_of, host_of, func_of, program_of}
 use Rattle.sim_printer.specs.FirstLine as first
 use Rattle.sim_printer.specs.Printed.{fixed, name, separated, listed, int_words, local_words, kind_words, param_words, shape_words, result_words, field_decl_words, declaration_words, statement_words, printed}
 use Rattle.sim_printer.proofs.Lightness.{IsLight, light_fixed}

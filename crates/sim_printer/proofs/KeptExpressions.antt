@@ -7,11 +7,11 @@ use Rattle.sim_lexer.specs.declared.token.TokenKind.TheVariants.{Name, Number, K
 use Rattle.sim_lexer.specs.declared.token.keyword.TheConstants as keyword
 use Rattle.sim_lexer.specs.declared.token.symbol.TheConstants as symbol
 use Rattle.sim_syntax.specs.declared.expression.Expr.{Expr}
-use Rattle.sim_parser.specs.Rule as rule
-use Rattle.sim_parser.specs.Rule.{Rule, Joined, line_of, ◌⊗◌, ◌▸◌, ◌◂◌, StateEach, Each, ◌∣◌, Fixed, Made, At, Node, Never, Separated, MaybeSome, Whether}
-use Rattle.sim_parser.specs.Grammar as grammar
-use Rattle.sim_parser.specs.Grammar.{NAME, NUM, Sign, Operator, Arguments, FieldRef, Reference, Block, Rescale, Quot, Isqrt, Dot, Atom, Post, Factor, Term, SignedTerm, Sum, Expression}
-use Rattle.sim_parser.specs.Trees.{Text, number_of, ref_of, field_of_ref, row_of, block_of, rescale_of, quot_of, isqrt_of, dot_of}
+use Rattle.sim_grammar.specs.Rule as rule
+use Rattle.sim_grammar.specs.Rule.{Rule, Joined, line_of, ◌⊗◌, ◌▸◌, ◌◂◌, StateEach, Each, ◌∣◌, Fixed, Made, At, Node, Never, Separated, MaybeSome, Whether}
+use Rattle.sim_grammar.specs.Grammar as grammar
+use Rattle.sim_grammar.specs.Grammar.{NAME, NUM, Sign, Operator, Arguments, FieldRef, Reference, Block, Rescale, Quot, Isqrt, Dot, Atom, Post, Factor, Term, SignedTerm, Sum, Expression}
+use Rattle.sim_grammar.specs.Trees.{Text, number_of, ref_of, field_of_ref, row_of, block_of, rescale_of, quot_of, isqrt_of, dot_of}
 use Rattle.sim_printer.specs.FirstLine as first
 use Rattle.sim_printer.specs.Printed.{Phrase, Level, atom, transposed, product, sum, phrase, fixed, number, separated, listed, in_parentheses, bracketed, is_looser, operator, sign, field_words, expression, expression_words}
 use Rattle.sim_printer.specs.Printed.{row_phrase}

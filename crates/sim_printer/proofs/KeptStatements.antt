@@ -17,11 +17,11 @@ use Rattle.sim_syntax.specs.declared.statement.Stmt.TheFolds as folds
 use Rattle.sim_syntax.specs.declared.statement.Right.{Right}
 use Rattle.sim_syntax.specs.declared.statement.Place.{Place}
 use Rattle.sim_syntax.specs.declared.statement.Target.{Target}
-use Rattle.sim_parser.specs.Rule as rule
-use Rattle.sim_parser.specs.Rule.{Rule, Are, Joined, ◌⊗◌, ◌▸◌, ◌◂◌, StateEach, Each, ◌∣◌, Fixed, Made, Node, Separated, OneOrTwo, Maybe, MaybeSome, Whether}
-use Rattle.sim_parser.specs.Grammar as grammar
-use Rattle.sim_parser.specs.Grammar.{NAME, NUM, Condition, Expression, FuncStatement, MainStatement}
-use Rattle.sim_parser.specs.Trees.{Text, target_of, if_of, assert_of, local_var_of, named_stmt_of, const_for_of, var_of, assign_of, while_of, for_of}
+use Rattle.sim_grammar.specs.Rule as rule
+use Rattle.sim_grammar.specs.Rule.{Rule, Are, Joined, ◌⊗◌, ◌▸◌, ◌◂◌, StateEach, Each, ◌∣◌, Fixed, Made, Node, Separated, OneOrTwo, Maybe, MaybeSome, Whether}
+use Rattle.sim_grammar.specs.Grammar as grammar
+use Rattle.sim_grammar.specs.Grammar.{NAME, NUM, Condition, Expression, FuncStatement, MainStatement}
+use Rattle.sim_grammar.specs.Trees.{Text, target_of, if_of, assert_of, local_var_of, named_stmt_of, const_for_of, var_of, assign_of, while_of, for_of}
 use Rattle.sim_printer.specs.FirstLine as first
 use Rattle.sim_printer.specs.Printed.{fixed, name, number, separated, in_parentheses, cond_words, target_words, place_words, right_words, expression_words, all_words, else_words, statement_node, statement_words}
 use Rattle.sim_printer.proofs.Lightness.{IsLight, light_nothing, light_fixed}

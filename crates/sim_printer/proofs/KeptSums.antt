@@ -8,10 +8,10 @@ use Rattle.sim_syntax.specs.declared.expression.Expr.{Expr}
 use Rattle.sim_syntax.specs.declared.expression.Expr.TheVariants as expr
 use Rattle.sim_syntax.specs.declared.expression.SumTerm.{SumTerm}
 use Rattle.sim_syntax.specs.declared.expression.ProductFactor.{ProductFactor}
-use Rattle.sim_parser.specs.Rule as rule
-use Rattle.sim_parser.specs.Rule.{Rule, Joined, line_of, ◌⊗◌, StateEach, Each, Node, Whether}
-use Rattle.sim_parser.specs.Grammar.{Atom, Post, Factor, Term, SignedTerm, Sum, Expression}
-use Rattle.sim_parser.specs.Trees.{post_of, factor_of, product_of, term_of, sum_of}
+use Rattle.sim_grammar.specs.Rule as rule
+use Rattle.sim_grammar.specs.Rule.{Rule, Joined, line_of, ◌⊗◌, StateEach, Each, Node, Whether}
+use Rattle.sim_grammar.specs.Grammar.{Atom, Post, Factor, Term, SignedTerm, Sum, Expression}
+use Rattle.sim_grammar.specs.Trees.{post_of, factor_of, product_of, term_of, sum_of}
 use Rattle.sim_printer.specs.FirstLine as first
 use Rattle.sim_printer.specs.Printed.{Phrase, Level, atom, transposed, product, sum, phrase, at_level, bracketed, is_looser, whether, factor_words, term_words, expression, expression_words}
 use Rattle.sim_printer.specs.Printed.{factor_phrase, term_phrase}

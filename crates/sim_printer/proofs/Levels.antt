@@ -5,10 +5,10 @@ use Rattle.sim_lexer.specs.declared.token.TokenKind.TheVariants.{Keyword}
 use Rattle.sim_lexer.specs.declared.token.keyword.TheConstants as keyword
 use Rattle.sim_lexer.specs.declared.token.symbol.TheConstants as symbol
 use Rattle.sim_syntax.specs.declared.expression.Expr.{Expr}
-use Rattle.sim_parser.specs.Rule as rule
-use Rattle.sim_parser.specs.Rule.{Rule, ◌⊗◌, ◌▸◌, ◌◂◌, Each, ◌∣◌, Fixed, Made, At, Node, Separated, MaybeSome, Whether}
-use Rattle.sim_parser.specs.Grammar.{NAME, NUM, Sign, Operator, Arguments, Reference, Row, Block, Atom, Post, Term, Sum}
-use Rattle.sim_parser.specs.Trees.{number_of, ref_of, field_of_ref, row_of, block_of, rescale_of, quot_of, isqrt_of, dot_of, post_of, factor_of, product_of, term_of, sum_of}
+use Rattle.sim_grammar.specs.Rule as rule
+use Rattle.sim_grammar.specs.Rule.{Rule, ◌⊗◌, ◌▸◌, ◌◂◌, Each, ◌∣◌, Fixed, Made, At, Node, Separated, MaybeSome, Whether}
+use Rattle.sim_grammar.specs.Grammar.{NAME, NUM, Sign, Operator, Arguments, Reference, Row, Block, Atom, Post, Term, Sum}
+use Rattle.sim_grammar.specs.Trees.{number_of, ref_of, field_of_ref, row_of, block_of, rescale_of, quot_of, isqrt_of, dot_of, post_of, factor_of, product_of, term_of, sum_of}
 use Rattle.sim_printer.specs.FirstLine as first
 use Rattle.sim_printer.specs.Printed.{Phrase, Level, atom, transposed, product, sum, phrase, bracketed, is_looser, at_level, expression, expression_words}
 use Rattle.sim_printer.proofs.Lightness.{IsLight, IsBalanced, light_without}

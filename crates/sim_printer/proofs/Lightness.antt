@@ -8,7 +8,7 @@ use Rattle.sim_lexer.specs.Words.{Word}
 use Rattle.sim_lexer.specs.declared.token.TokenKind.{TokenKind}
 use Rattle.sim_lexer.specs.declared.token.TokenKind.TheVariants.{Name, Number, Keyword, Symbol, End}
 use Rattle.sim_lexer.specs.declared.token.symbol.TheConstants as symbol
-use Rattle.sim_parser.specs.Rule.{Are, kinds_of, line_of, sym as symbol_kind}
+use Rattle.sim_grammar.specs.Rule.{Are, kinds_of, line_of, sym as symbol_kind}
 use Rattle.sim_printer.specs.Printed.{fixed, spelling, in_parentheses}
 
 -- ---- depths

@@ -8,7 +8,7 @@ use Rattle.std.proofs.lemmas.List.Folds.{flat_map-map}
 use Rattle.sim_lexer.specs.Words.{Word}
 use Rattle.sim_lexer.specs.declared.token.TokenKind.{TokenKind}
 use Rattle.sim_lexer.specs.declared.token.symbol.TheConstants as symbol
-use Rattle.sim_parser.specs.Rule.{sym as sym_of}
+use Rattle.sim_grammar.specs.Rule.{sym as sym_of}
 use Rattle.sim_syntax.specs.declared.expression.Expr.TheFolds as folds
 use Rattle.sim_syntax.specs.declared.expression.SumTerm.{SumTerm}
 use Rattle.sim_syntax.specs.declared.expression.ProductFactor.{ProductFactor}

@@ -8,7 +8,7 @@ use Rattle.sim_lexer.specs.Words.{Word, word_of, words_of}
 use Rattle.sim_lexer.specs.Joined.{StaysWithin, AreJoinable, end_word, JoinedReadsBack, TokensAreFew, TokensAreSpelled, TokensStayWithin}
 use Rattle.sim_lexer.specs.declared.token.Token.{Token}
 use Rattle.sim_lexer.specs.declared.token.TokenKind.TheVariants.{End}
-use Rattle.sim_parser.specs.Rule.{Are}
+use Rattle.sim_grammar.specs.Rule.{Are}
 use Rattle.sim_printer.specs.Printed.{printed}
 use Rattle.sim_printer.specs.ReadsBack.{ReadBack}
 use Rattle.sim_printer.proofs.Lightness.{IsLight, AreSpelled, ArePlain, Within, spelled_first, within_first}

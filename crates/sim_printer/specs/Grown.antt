@@ -4,7 +4,7 @@ use Rattle.sim_lexer.specs.Joined.{joined}
 use Rattle.sim_lexer.specs.Words.{Word}
 use Rattle.sim_lexer.specs.declared.token.TokenKind.{TokenKind}
 use Rattle.sim_lexer.specs.declared.token.symbol.TheConstants as symbol
-use Rattle.sim_parser.specs.Rule.{sym}
+use Rattle.sim_grammar.specs.Rule.{sym}
 use Rattle.sim_printer.specs.Printed.{fixed, whether, sign, operator}
 
 pub record Grown (old new : List ℕ) (words : List Word) : Type 0 where

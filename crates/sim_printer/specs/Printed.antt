@@ -40,8 +40,8 @@ use Rattle.sim_syntax.specs.declared.declaration.ParamKind.{ParamKind}
 use Rattle.sim_syntax.specs.declared.declaration.ParamKind.TheVariants as kind
 use Rattle.sim_syntax.specs.declared.declaration.ResultDecl.{ResultDecl}
 use Rattle.sim_syntax.specs.declared.program.Program.{Program}
-use Rattle.sim_parser.specs.Rule.{sym, key}
-use Rattle.sim_parser.specs.Trees.{Text}
+use Rattle.sim_grammar.specs.Rule.{sym, key}
+use Rattle.sim_grammar.specs.Trees.{Text}
 
 -- ---- words
 

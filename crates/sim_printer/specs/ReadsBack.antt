@@ -5,7 +5,7 @@ use Rattle.sim_lexer.specs.Tokens.{tokens}
 use Rattle.sim_lexer.specs.Words.{words_of}
 use Rattle.sim_lexer.specs.declared.token.Token.{Token}
 use Rattle.sim_syntax.specs.declared.program.Program.{Program}
-use Rattle.sim_parser.specs.Grammar.{Derives}
+use Rattle.sim_grammar.specs.Grammar.{Derives}
 use Rattle.sim_printer.specs.Printed.{printed}
 use Rattle.sim_printer.specs.FirstLine.{on_first_line}
 

@@ -5,7 +5,7 @@ ghost use Rattle.std.specs.List.{flat_map};
 ghost use Rattle.sim_lexer.specs.declared.token.TokenKind.TheVariants.{Keyword, Symbol};
 ghost use Rattle.sim_lexer.specs.declared.token.keyword.TheConstants as key_of;
 ghost use Rattle.sim_lexer.specs.declared.token.symbol.TheConstants as sym_of;
-ghost use Rattle.sim_parser.specs.Rule.{sym, key};
+ghost use Rattle.sim_grammar.specs.Rule.{sym, key};
 ghost use Rattle.sim_printer.specs.Printed as spec;
 ghost use Rattle.sim_printer.specs.Grown.{Grown};
 

@@ -5,7 +5,7 @@ ghost use Rattle.std.specs.List.{flat_map};
 ghost use Rattle.sim_lexer.specs.declared.token.TokenKind.TheVariants.{Keyword, Symbol};
 ghost use Rattle.sim_lexer.specs.declared.token.keyword.TheConstants as key_of;
 ghost use Rattle.sim_lexer.specs.declared.token.symbol.TheConstants as sym_of;
-ghost use Rattle.sim_parser.specs.Rule.{sym, key};
+ghost use Rattle.sim_grammar.specs.Rule.{sym, key};
 ghost use Rattle.sim_syntax.specs.declared.declaration.Decl.TheVariants as decl;
 ghost use Rattle.sim_printer.specs.Printed as spec;
 ghost use Rattle.sim_printer.specs.Grown.{Grown};
@@ -14,10 +14,9 @@ use crate::expressions::between;
 use crate::line::Line;
 use crate::right_sides::listed_names;
 use crate::statements::statements;
-use ring_words::Text;
 use sim_lexer::{TokenKind, keyword, symbol};
 use sim_syntax::{Decl, Field, Local, Param, ParamKind, ResultDecl, Stmt};
-use vocabulary::NoMemory;
+use vocabulary::{NoMemory, Text};
 
 /// A scale.
 #[tactic(auto, using(crate::proofs::Growing::grown_none, crate::proofs::Growing::grown_both))]

@@ -2,15 +2,14 @@
 
 ghost use Rattle.std.specs.Prelude.{◌≡◌, ◌++◌, ◌∷◌, [], OnOk, map};
 ghost use Rattle.sim_lexer.specs.declared.token.symbol.TheConstants.{COMMA, SEMICOLON, OPEN_PAREN, CLOSE_PAREN, OPEN_BRACKET, CLOSE_BRACKET, TRANSPOSE};
-ghost use Rattle.sim_parser.specs.Rule.{sym, key};
+ghost use Rattle.sim_grammar.specs.Rule.{sym, key};
 ghost use Rattle.sim_printer.specs.Printed as spec;
 ghost use Rattle.sim_printer.specs.Grown.{Grown, before_part_words, before_factor_words, before_term_words};
 
 use crate::line::Line;
-use ring_words::Text;
 use sim_lexer::{TokenKind, keyword, symbol};
 use sim_syntax::{Expr, ProductFactor, Row, SumTerm};
-use vocabulary::NoMemory;
+use vocabulary::{NoMemory, Text};
 
 /// An expression without parentheses around it.
 #[cycle(expression)]

@@ -3,12 +3,11 @@
 ghost use Rattle.std.specs.Prelude.{◌≡◌, [], map, slice_index_or};
 ghost use Rattle.sim_printer.specs.Printed as spec;
 
-use ring_words::Text;
 use sim_lexer::{KEYWORDS, SYMBOLS, TokenKind};
 use std::alloc::Global;
 use std::marker::Model;
-use vocabulary::NoMemory;
 use vocabulary::marks::SPACE;
+use vocabulary::{NoMemory, Text};
 
 /// Words, each followed by a blank. Contracts see the bytes.
 #[derive(Drop)]

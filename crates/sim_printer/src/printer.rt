@@ -5,7 +5,7 @@ ghost use Rattle.sim_lexer.specs.Joined.{joined};
 ghost use Rattle.sim_lexer.specs.Tokens.{tokens};
 ghost use Rattle.sim_lexer.specs.Words.{words_of};
 ghost use Rattle.sim_lexer.specs.declared.token.Token.{Token};
-ghost use Rattle.sim_parser.specs.Grammar.{Derives};
+ghost use Rattle.sim_grammar.specs.Grammar.{Derives};
 ghost use Rattle.sim_printer.specs.Grown.{Grown};
 ghost use Rattle.sim_printer.specs.Printed as spec;
 ghost use Rattle.sim_printer.specs.ReadsBack.{ReadsBack};

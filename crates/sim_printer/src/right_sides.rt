@@ -5,16 +5,15 @@ ghost use Rattle.std.specs.List.{flat_map};
 ghost use Rattle.sim_lexer.specs.declared.token.TokenKind.TheVariants.{Keyword, Symbol};
 ghost use Rattle.sim_lexer.specs.declared.token.keyword.TheConstants as key_of;
 ghost use Rattle.sim_lexer.specs.declared.token.symbol.TheConstants as sym_of;
-ghost use Rattle.sim_parser.specs.Rule.{sym, key};
+ghost use Rattle.sim_grammar.specs.Rule.{sym, key};
 ghost use Rattle.sim_printer.specs.Printed as spec;
 ghost use Rattle.sim_printer.specs.Grown.{Grown};
 
 use crate::expressions::{before_term, between, expression, listed};
 use crate::line::Line;
-use ring_words::Text;
 use sim_lexer::{TokenKind, keyword, symbol};
 use sim_syntax::{Expr, Index, IxAtom, IxTerm, Place, Right, Target};
-use vocabulary::NoMemory;
+use vocabulary::{NoMemory, Text};
 
 /// Names, with commas between.
 #[tactic(auto)]

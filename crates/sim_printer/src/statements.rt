@@ -5,7 +5,7 @@ ghost use Rattle.std.specs.List.{flat_map};
 ghost use Rattle.sim_lexer.specs.declared.token.TokenKind.TheVariants.{Keyword, Symbol};
 ghost use Rattle.sim_lexer.specs.declared.token.keyword.TheConstants as key_of;
 ghost use Rattle.sim_lexer.specs.declared.token.symbol.TheConstants as sym_of;
-ghost use Rattle.sim_parser.specs.Rule.{sym, key};
+ghost use Rattle.sim_grammar.specs.Rule.{sym, key};
 ghost use Rattle.sim_printer.specs.Printed as spec;
 ghost use Rattle.sim_printer.specs.Grown.{Grown};
 
@@ -13,10 +13,9 @@ use crate::conditions::cond;
 use crate::expressions::expression;
 use crate::line::Line;
 use crate::right_sides::{names, places_in_parentheses, right, targets};
-use ring_words::Text;
 use sim_lexer::{TokenKind, keyword, symbol};
 use sim_syntax::{Cond, Expr, Place, Right, Stmt, Target};
-use vocabulary::NoMemory;
+use vocabulary::{NoMemory, Text};
 
 /// The name of a loop.
 #[tactic(auto, using(crate::proofs::Growing::grown_none, crate::proofs::Growing::grown_both))]

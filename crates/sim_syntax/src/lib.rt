@@ -17,8 +17,8 @@ pub use declaration::{Decl, Field, Local, Param, ParamKind, ResultDecl};
 pub use expression::{Expr, ProductFactor, Row, SumTerm};
 pub use lowered::Lowered;
 pub use program::Program;
-use ring_words::Text;
 pub use statement::{Index, IxAtom, IxTerm, Place, Right, Stmt, Target};
+use vocabulary::Text;
 
 /// The text of a name's token.
 pub type Name = Text;

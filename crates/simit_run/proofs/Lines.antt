@@ -3,7 +3,7 @@ use Rattle.std.proofs.Common.{◌≡◌, ℕ, zero, suc, List, [], ◌∷◌, dr
 use Rattle.std.specs.Prelude.{Option, Some, None, slice_get}
 use Rattle.sim_lexer.specs.Words.{words_of}
 use Rattle.sim_lexer.specs.declared.token.Token.{Token}
-use Rattle.sim_parser.specs.Rule.{line_of}
+use Rattle.sim_grammar.specs.Rule.{line_of}
 
 abbrev line_or_none : Option Token → ℕ
 line_or_none None = 0

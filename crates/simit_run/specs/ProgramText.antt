@@ -7,8 +7,8 @@ use Rattle.sim_lexer.specs.Tokens.{line_at, tokens}
 use Rattle.sim_lexer.specs.Words.{Word, words_of}
 use Rattle.sim_lexer.specs.declared.token.LexFault.{LexFault}
 use Rattle.sim_lexer.specs.declared.token.LexFault.TheVariants as fault
-use Rattle.sim_parser.specs.ReadProgram.{program_in}
-use Rattle.sim_parser.specs.Rule.{line_of}
+use Rattle.sim_grammar.specs.ReadProgram.{program_in}
+use Rattle.sim_grammar.specs.Rule.{line_of}
 use Rattle.program_forms.specs.Resolved.{resolved}
 use Rattle.global_algebra.specs.declared.program.Program.{Program}
 use Rattle.simit_run.specs.declared.failure.Refusal.{Refusal}

@@ -1,6 +1,6 @@
 use Rattle.std.proofs.Common.{◌++◌, refl}
 use Rattle.sim_lexer.specs.declared.token.keyword.TheConstants as key_of
-use Rattle.sim_parser.specs.Rule as rule
+use Rattle.sim_grammar.specs.Rule as rule
 use Rattle.sim_printer.specs.Printed as spec
 use Rattle.sim_printer.specs.Grown.{before_part_words}
 use Rattle.sim_printer.proofs.Parts.{so_far_next, separated_plain}

@@ -1,5 +1,5 @@
 use Rattle.sim_lexer.specs.declared.token.keyword.TheConstants as key_of
-use Rattle.sim_parser.specs.Rule as rule
+use Rattle.sim_grammar.specs.Rule as rule
 use Rattle.sim_printer.specs.Printed as spec
 use Rattle.sim_printer.proofs.Parts.{SoFar}
 use Rattle.sim_printer.proofs.conditions.conjunctions.Given as goal

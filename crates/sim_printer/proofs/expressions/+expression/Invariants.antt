@@ -1,6 +1,6 @@
 use Rattle.std.proofs.Common.{map}
 use Rattle.sim_lexer.specs.declared.token.symbol.TheConstants.{COMMA, SEMICOLON}
-use Rattle.sim_parser.specs.Rule.{sym}
+use Rattle.sim_grammar.specs.Rule.{sym}
 use Rattle.sim_printer.specs.Printed as spec
 use Rattle.sim_printer.proofs.Parts.{SoFar}
 use Rattle.sim_printer.proofs.expressions.+expression.Given as goal

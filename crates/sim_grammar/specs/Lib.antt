@@ -1,0 +1,11 @@
+pub mod Rule
+pub mod Trees
+pub mod Grammar
+pub mod Read
+pub mod ReadExpressions
+pub mod ReadConditions
+pub mod ReadFunctions
+pub mod ReadIndices
+pub mod ReadMain
+pub mod ReadProgram
+pub mod Laws

@@ -1,0 +1,7 @@
+//! The grammar of programs, in `specs/`: which words derive which tree, which are cuts of a program, and how a program is
+//! read off words.
+#![tactic(auto)]
+
+mod reading;
+
+pub use reading::reading_law;

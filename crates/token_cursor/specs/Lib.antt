@@ -1,0 +1,3 @@
+pub mod Reads
+pub mod Nests
+pub mod Cursor
