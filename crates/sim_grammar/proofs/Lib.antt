@@ -6,3 +6,9 @@ pub mod ExpressionsAgree
 pub mod StatementsAgree
 pub mod DeclarationsAgree
 pub mod Law
+pub mod CutWords
+pub mod Cuts
+pub mod CutExpressions
+pub mod CutStatements
+pub mod CutDeclarations
+pub mod WholeCuts

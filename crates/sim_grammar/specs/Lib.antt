@@ -9,3 +9,4 @@ pub mod ReadIndices
 pub mod ReadMain
 pub mod ReadProgram
 pub mod Laws
+pub mod CutLaws

@@ -2,6 +2,8 @@
 //! read off words.
 #![tactic(auto)]
 
+mod cutting;
 mod reading;
 
+pub use cutting::cut_law;
 pub use reading::reading_law;

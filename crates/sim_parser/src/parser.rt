@@ -5,6 +5,7 @@ ghost use Rattle.std.specs.Result.{result_map_both};
 ghost use Rattle.vocabulary.specs.Answers.{Answers};
 ghost use Rattle.sim_lexer.specs.Tokens.{EndsOnce, IsSpelled, LiesIn};
 ghost use Rattle.sim_lexer.specs.Words.{words_of};
+ghost use Rattle.sim_grammar.specs.CutLaws.{EndsBeginnings};
 ghost use Rattle.sim_grammar.specs.Grammar.{Derives, IsPlace, IsUnambiguous};
 ghost use Rattle.sim_grammar.specs.ReadProgram as spec;
 ghost use Rattle.token_cursor.specs.Cursor.{AreOf};
@@ -12,7 +13,7 @@ ghost use Rattle.token_cursor.specs.Reads.{Reads};
 ghost use Rattle.sim_syntax.specs.declared.program.Program as tree;
 
 use crate::declarations::declarations;
-use sim_grammar::reading_law;
+use sim_grammar::{cut_law, reading_law};
 use sim_lexer::{Token, TokenKind, Tokens, keyword};
 use sim_syntax::Program;
 use statement_parser::main_body;
@@ -90,8 +91,10 @@ pub fn parse(alloc: Global, source: &[u8], tokens: &Tokens) -> Result<Program, P
     // By the grammar: what is answered is derived, and what is derived is answered, unless memory runs out.
     ensures derived { IfOk result (λ p. Derives p (words_of source.now tokens.now)) }
     ensures only { (p : tree.Program) → Derives p (words_of source.now tokens.now) → Answers ParseFault.Memory (Ok p) result }
-    // A refusal's place; there is no tree then.
+    // A refusal's place: words before it are a cut of a program and with it they are none, that is, some program begins with
+    // those before it and none with it. There is no tree then.
     ensures place { (n : ℕ) → result ≡ Err (ParseFault.Syntax n) → IsPlace (words_of source.now tokens.now) n }
+    ensures begins { (n : ℕ) → result ≡ Err (ParseFault.Syntax n) → EndsBeginnings (words_of source.now tokens.now) n }
     ensures refused { (n : ℕ) → result ≡ Err (ParseFault.Syntax n) → (p : tree.Program) → Derives p (words_of source.now tokens.now) → ⊥ }
     ensures unambiguous { IsUnambiguous }
     // The reader that the definitions of programs use reads exactly what the grammar derives, and else names the place.
@@ -99,5 +102,6 @@ pub fn parse(alloc: Global, source: &[u8], tokens: &Tokens) -> Result<Program, P
     ensures reads_place { (n : ℕ) → spec.program_in (words_of source.now tokens.now) ≡ Err n → IsPlace (words_of source.now tokens.now) n }
 {
     reading_law();
+    cut_law();
     program_in(alloc, source, tokens.list())
 }

@@ -20,6 +20,9 @@ returns-clause-place c =
     let place = c.reading_law.ensures.place words (has_one_end c.args.source.now c.args.tokens.now c.requires.ends) in
     answer-place words place c.program_in.result (rw c.list.ensures at c.program_in.ensures)
 
+pub returns-clause-begins : goal.returns-clause-begins
+returns-clause-begins c n is = (c.cut_law.ensures.places (words_of c.args.source.now c.args.tokens.now) n).0 (returns-clause-place c n is)
+
 pub returns-clause-refused : goal.returns-clause-refused
 returns-clause-refused c =
     let words = words_of c.args.source.now c.args.tokens.now in
