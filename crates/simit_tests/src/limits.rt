@@ -1,6 +1,5 @@
 //! The limits on files and on the rows of a table, each at its last value and one past it.
 use crate::calls::{assert_over_points, done, ended, refused};
-use crate::fixtures::numbered;
 use simit_run::Status;
 use std::test::Fail;
 
@@ -62,7 +61,8 @@ fn at_most_67108864_bytes_of_a_table(rt: HostRuntime) -> Result<(), Fail> {
 
 #[test]
 fn at_most_1048576_rows(rt: HostRuntime) -> Result<(), Fail> {
-    let out = numbered(rt.alloc(), "set points\nx\n", 1_048_576, "", "\n")?;
+    let rows = "7\n".repeat(rt.alloc(), 1_048_576)?;
+    let out = format!(in rt.alloc(); "set points\nx\n{rows}")?;
     for (count, end) in [
         (1_048_576, done(out.as_str())),
         (
@@ -70,7 +70,8 @@ fn at_most_1048576_rows(rt: HostRuntime) -> Result<(), Fail> {
             refused("refused: points.csv: more than 1048576 rows\n"),
         ),
     ] {
-        let points = numbered(rt.alloc(), "x\n", count, "", "\n")?;
+        let rows = "7\n".repeat(rt.alloc(), count)?;
+        let points = format!(in rt.alloc(); "x\n{rows}")?;
         assert_over_points(&rt, "rows", PROGRAM, points.as_bytes(), end)?;
     }
     Ok(())

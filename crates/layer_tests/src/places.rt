@@ -1,9 +1,9 @@
 //! The place where a text stops being a cut of a program.
-use crate::worked::{BROKEN_OFF, DOUBLED, FORMS, GRADIENTS, PULLING, RATIO, STIFFNESS, SUMMED};
 use sim_lexer::{TokenKind, lex};
 use sim_parser::{ParseFault, parse};
 use std::process::Abort;
 use std::test::Fail;
+use worked_texts::{BROKEN_OFF, DOUBLED, FORMS, GRADIENTS, PULLING, RATIO, STIFFNESS, SUMMED};
 
 /// The token at which a text is refused, if it is. Out of memory is a failure of the test.
 fn place_of(rt: &(impl Abort + AllocGlobal), text: &[u8]) -> Result<Option<u32>, Fail> {

@@ -1,6 +1,24 @@
 //! Trees that are no programs that run: each place where that is found, and the limits on programs.
-use crate::fixtures::{HEAD, Reading, assert_reading, numbered};
+use crate::read_texts::{Reading, assert_reading};
+use std::alloc::{AllocError, Global};
 use std::test::Fail;
+use worked_texts::HEAD;
+
+/// The prefix, and then so many times what stands before and after a number, which counts from 0 on.
+fn numbered(
+    alloc: Global,
+    prefix: &str,
+    count: u32,
+    before: &str,
+    after: &str,
+) -> Result<String, AllocError> {
+    let mut text = String::from_str(alloc, prefix)?;
+    for number in 0..count {
+        let part = format!(in alloc; "{before}{number}{after}")?;
+        text.push_str(part.as_str())?;
+    }
+    Ok(text)
+}
 
 /// What may not stand in `element Point .. end`.
 static FIELDS: [&str; 8] = [

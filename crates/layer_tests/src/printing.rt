@@ -1,10 +1,10 @@
 //! Printed trees: all tokens on one line with a blank after each, and parentheses only where they are needed.
-use crate::worked::{DOUBLED, FORMS, GRADIENTS, PULLING, RATIO, SUMMED};
 use sim_lexer::{TokenKind, lex};
 use sim_parser::parse;
 use sim_printer::print;
 use std::process::Abort;
 use std::test::Fail;
+use worked_texts::{DOUBLED, FORMS, GRADIENTS, PULLING, RATIO, SUMMED};
 
 /// The tree of a text, printed.
 fn printed(rt: &(impl Abort + AllocGlobal), text: &[u8]) -> Result<Vec<u8>, Fail> {

@@ -1,10 +1,10 @@
 //! The trees of worked texts.
-use crate::worked::{FORMS, GRADIENTS};
 use sim_lexer::lex;
 use sim_parser::parse;
 use sim_syntax::{Expr, Lowered, Program, Right, Stmt};
 use std::process::Abort;
 use std::test::Fail;
+use worked_texts::{FORMS, GRADIENTS};
 
 /// The tree of a text that has one.
 fn tree(rt: &(impl Abort + AllocGlobal), text: &[u8]) -> Result<Program, Fail> {

@@ -1,0 +1,8 @@
+//! The programs and tables that several tests take, once.
+#![tactic(auto)]
+
+mod models;
+mod pulling;
+
+pub use models::{BROKEN_OFF, DOUBLED, FORMS, GRADIENTS, PULLING, RATIO, STIFFNESS, SUMMED};
+pub use pulling::{HEAD, POINTS, PULL, PULLED, SPRINGS};
