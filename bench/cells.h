@@ -15,7 +15,7 @@
 #include <unistd.h>
 
 enum { MOST_ROWS = 1048576, MOST_BYTES = 67108864 };
-enum { CELL_TEXT = 21 };     /* the longest cell: 20 bytes with its comma or line end */
+enum { CELL_TEXT = 22 };     /* the longest cell: 21 bytes with its comma or line end */
 enum { CELL_COPY = 20 };     /* each cell is copied as 20 bytes, and what follows it is written over */
 
 static _Noreturn void stop(int status, const char *note)
@@ -86,8 +86,16 @@ static inline const char *skip_line_ends(const char *at)
     return at;
 }
 
-/* Reads a whole number of the signed range with the spaces round it; zeros after a point are let pass. */
-static inline const char *read_cell(const char *at, uint64_t *word)
+static inline uint64_t with_digit(uint64_t size, char digit)
+{
+    if (size > INT64_MAX / 10)
+        refuse();
+    return 10 * size + (uint64_t)(digit - '0');
+}
+
+/* Reads a number of the signed range with the spaces round it as units of a scale; of the decimals past the scale zeros are let
+ * pass. */
+static inline const char *read_cell(const char *at, int scale, uint64_t *word)
 {
     at = skip_spaces(at);
     bool negative = *at == '-';
@@ -95,19 +103,21 @@ static inline const char *read_cell(const char *at, uint64_t *word)
     if (!is_digit(*at))
         refuse();
     uint64_t size = 0;
-    for (; is_digit(*at); at++) {
-        if (size > INT64_MAX / 10)
-            refuse();
-        size = 10 * size + (uint64_t)(*at - '0');
-    }
-    if (size > (uint64_t)INT64_MAX + negative)
-        refuse();
+    for (; is_digit(*at); at++)
+        size = with_digit(size, *at);
+    int left = scale;
     if (*at == '.') {
         if (!is_digit(*++at))
             refuse();
+        for (; left > 0 && is_digit(*at); at++, left--)
+            size = with_digit(size, *at);
         while (*at == '0')
             at++;
     }
+    for (; left > 0; left--)
+        size = with_digit(size, '0');
+    if (size > (uint64_t)INT64_MAX + negative)
+        refuse();
     *word = negative ? -size : size;
     return skip_spaces(at);
 }
@@ -157,15 +167,11 @@ static void fill_pairs(void)
     }
 }
 
-/* Writes a word in its signed reading. */
-static inline char *write_cell(char *out, uint64_t word)
+/* Writes a number in digits. */
+static inline char *write_digits(char *out, uint64_t word)
 {
     char digits[2 * CELL_COPY];
     char *end = digits + CELL_COPY, *first = end;
-    if (word >> 63) {
-        *out++ = '-';
-        word = -word;
-    }
     while (word >= 10000) {
         uint32_t low = (uint32_t)(word % 10000);
         word /= 10000;
@@ -187,6 +193,23 @@ static inline char *write_cell(char *out, uint64_t word)
     }
     memcpy(out, first, CELL_COPY);
     return out + (end - first);
+}
+
+/* Writes a word in its signed reading with as many decimals as its scale; unit is 10^scale. */
+static inline char *write_cell(char *out, uint64_t word, int scale, uint64_t unit)
+{
+    if (word >> 63) {
+        *out++ = '-';
+        word = -word;
+    }
+    if (scale == 0)
+        return write_digits(out, word);
+    out = write_digits(out, word / unit);
+    *out++ = '.';
+    uint64_t rest = word % unit;
+    for (int i = scale; i-- > 0; rest /= 10)
+        out[i] = (char)('0' + rest % 10);
+    return out + scale;
 }
 
 static char *write_head(char *out, const char *head, size_t length)

@@ -17,8 +17,8 @@ static size_t read_table(const char *at, const char *end, uint64_t *x, uint64_t 
     for (; at != end; rows++) {
         if (rows == MOST_ROWS)
             refuse();
-        at = read_comma(read_cell(at, &x[rows]));
-        at = read_line_end(read_cell(at, &f[rows]), end);
+        at = read_comma(read_cell(at, 0, &x[rows]));
+        at = read_line_end(read_cell(at, 0, &f[rows]), end);
     }
     return rows;
 }
@@ -40,9 +40,9 @@ static size_t write_table(char *out, const uint64_t *x, const uint64_t *f, size_
 {
     char *at = write_head(out, HEAD, sizeof HEAD - 1);
     for (size_t i = 0; i < rows; i++) {
-        at = write_cell(at, x[i]);
+        at = write_cell(at, x[i], 0, 1);
         *at++ = ',';
-        at = write_cell(at, f[i]);
+        at = write_cell(at, f[i], 0, 1);
         *at++ = '\n';
     }
     return (size_t)(at - out);
