@@ -181,7 +181,11 @@ fn words_are_trimmed_and_computed(rt: HostRuntime) {
 }
 
 /// Words, scales, and what they are at the last scale.
-static RESCALED: [(u64, u32, u32, u64); 10] = [
+static RESCALED: [(u64, u32, u32, u64); 13] = [
+    // -0.15, 0.10 and 0.05 with one decimal
+    (18_446_744_073_709_551_601, 2, 1, 18_446_744_073_709_551_614),
+    (10, 2, 1, 1),
+    (5, 2, 1, 0),
     (150, 2, 2, 150),
     (150, 2, 4, 15_000),
     (150, 2, 1, 15),
@@ -195,7 +199,17 @@ static RESCALED: [(u64, u32, u32, u64); 10] = [
 ];
 
 /// Two words with their scales, the scale of their quotient, and the quotient.
-static QUOTIENTS: [(u64, u32, u64, u32, u32, Option<u64>); 11] = [
+static QUOTIENTS: [(u64, u32, u64, u32, u32, Option<u64>); 13] = [
+    // -1.00 by 3.00, and 1.00 by 0.00
+    (
+        18_446_744_073_709_551_516,
+        2,
+        300,
+        2,
+        2,
+        Some(18_446_744_073_709_551_582),
+    ),
+    (100, 2, 0, 2, 2, None),
     (150, 2, 7, 2, 2, Some(2_142)),
     (
         150,
@@ -238,7 +252,10 @@ static QUOTIENTS: [(u64, u32, u64, u32, u32, Option<u64>); 11] = [
 ];
 
 /// A word with its scale, the scale of its root, and the root.
-static ROOTS: [(u64, u32, u32, Option<u64>); 9] = [
+static ROOTS: [(u64, u32, u32, Option<u64>); 11] = [
+    // of 2.00 and of -0.01
+    (200, 2, 2, Some(141)),
+    (MINUS_ONE, 2, 2, None),
     (0, 0, 0, Some(0)),
     (15, 0, 0, Some(3)),
     (16, 0, 0, Some(4)),

@@ -23,3 +23,5 @@ mod reading;
 mod sets;
 #[cfg(test)]
 mod tables;
+#[cfg(test)]
+mod typing;
