@@ -1,10 +1,8 @@
-//! The tests of single layers below the program, by their public calls alone: what no public clause says.
+//! The tests of the calls that take a program's text to its tree and types: what no public clause says.
 //!
 //! Each module is about one subject.
 #![tactic(auto)]
 
-#[cfg(test)]
-mod cells;
 #[cfg(test)]
 mod forms;
 #[cfg(test)]
@@ -17,11 +15,5 @@ mod places;
 mod printing;
 #[cfg(test)]
 mod read_texts;
-#[cfg(test)]
-mod reading;
-#[cfg(test)]
-mod sets;
-#[cfg(test)]
-mod tables;
 #[cfg(test)]
 mod typing;
