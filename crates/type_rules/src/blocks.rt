@@ -184,7 +184,7 @@ fn is_outside(side: u32, index: IndexRange) -> bool
     }
 }
 
-/// The sides of a vector or a matrix of a function, for so many indices; none where they don't fit.
+/// Whether the value is a vector or a matrix of a function with one index for each of its sides.
 fn is_entry(value: NodeType, indices: &[IndexRange]) -> bool
     ensures { result ≡ spec.is_entry value indices.now }
 {

@@ -44,3 +44,18 @@ pub const MOST_SCALE_CHANGE: u32 = 18;
 
 /// The most rows or columns of a block.
 pub const MOST_SIDE: u32 = 6;
+
+/// The most scalar arguments of a function.
+pub const MOST_ARGUMENTS: u32 = 8;
+
+/// The most results of a function.
+pub const MOST_RESULTS: u32 = 4;
+
+/// The largest upper bound of a function's loop.
+pub const MOST_LOOP_BOUND: u32 = 4_096;
+
+/// The largest cost of a function.
+pub const MOST_FUNCTION_COST: u32 = 65_536;
+
+/// The most nodes of a program that is checked.
+pub const MOST_NODES: u32 = 16_777_216;
