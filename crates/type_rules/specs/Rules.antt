@@ -1,5 +1,5 @@
 -- One rule for each form of expression: from the types of its parts to its own, or the first kind of fault that applies.
-use Rattle.std.specs.Prelude.{ℕ, zero, suc, ◌+◌, ◌-◌, ◌^◌, ◌==◌, nat_lt, length, Bool, true, false, not, ◌&&◌, ◌||◌, if◌then◌else◌, List, [], ◌∷◌, Option, Some, None, Result, Ok, Err}
+use Rattle.std.specs.Prelude.{ℕ, zero, suc, ◌+◌, ◌-◌, ◌==◌, nat_lt, min, length, Bool, true, false, not, ◌&&◌, ◌||◌, if◌then◌else◌, List, [], ◌∷◌, Option, Some, None, Result, Ok, Err}
 use Rattle.std.specs.List.{list_all, list_any}
 use Rattle.vocabulary.specs.declared.limits.TheConstants.{MOST_SCALE, MOST_SCALE_CHANGE, MOST_FIELD_SCALE, MOST_SIDE}
 use Rattle.type_rules.specs.declared.types.BlockShape.{BlockShape}
@@ -7,7 +7,7 @@ use Rattle.type_rules.specs.declared.types.BlockShape.TheVariants.{Number, Vecto
 use Rattle.type_rules.specs.declared.types.NodeType.{NodeType}
 use Rattle.type_rules.specs.declared.types.NodeType.TheVariants.{Local, SystemVector, SystemMatrix}
 use Rattle.type_rules.specs.declared.types.IndexRange.{IndexRange}
-use Rattle.type_rules.specs.declared.types.IndexRange.TheVariants.{NotConstant, Never, UpTo}
+use Rattle.type_rules.specs.declared.types.IndexRange.TheVariants.{NotConstant, UpTo}
 use Rattle.type_rules.specs.declared.types.TypeKind.{TypeKind}
 use Rattle.type_rules.specs.declared.types.TypeKind.TheVariants as kind
 use Rattle.type_rules.specs.Types.{is_same_block, is_same_form, is_over_the_same, is_scalar, scale_of, with_scale}
@@ -16,6 +16,11 @@ use Rattle.type_rules.specs.Types.{is_same_block, is_same_form, is_over_the_same
 abbrev pub judged : {A : Type 0} → List (TypeKind × Bool) → A → Result A TypeKind
 judged [] type = Ok type
 judged (fault ∷ others) type = if fault.1 then Err fault.0 else judged others type
+
+-- the first of the kinds of fault whose test applies, if there is one
+abbrev pub first_kind : List (TypeKind × Bool) → Option TypeKind
+first_kind [] = None
+first_kind (fault ∷ others) = if fault.1 then Some fault.0 else first_kind others
 
 -- the same of what may fit no rule
 abbrev pub judged_form : List (TypeKind × Bool) → Option NodeType → Result NodeType TypeKind
@@ -84,9 +89,9 @@ is_inner_the_same (SystemMatrix rows columns a s) (SystemVector set b t) = colum
 is_inner_the_same (SystemMatrix rows columns a s) (SystemMatrix inner others b t) = columns == inner
 is_inner_the_same left right = true
 
--- the scale of a product
+-- the scale of a product; one past the largest is cut down to the first that is
 abbrev pub scales_added : NodeType → NodeType → ℕ
-scales_added left right = scale_of left + scale_of right
+scales_added left right = min (scale_of left + scale_of right) (MOST_SCALE + 1)
 
 unfoldable pub product_rule : NodeType → NodeType → Result NodeType TypeKind
 product_rule left right =
@@ -111,14 +116,14 @@ dot_rule left right = judged (vector_faults left right) (Local Number (scales_ad
 
 -- ---- scales
 
--- a literal number: its scale, and its digits read as one whole number
-unfoldable pub literal_rule : ℕ → ℕ → Result NodeType TypeKind
-literal_rule scale word = judged ((kind.Scale, nat_lt MOST_FIELD_SCALE scale) ∷ (kind.TooLarge, not (nat_lt word (2 ^ 63))) ∷ []) (Local Number scale)
-
--- what has to be a whole number is one
+-- what has to be there isn't
 abbrev pub is_missing : Option ℕ → Bool
 is_missing None = true
 is_missing (Some number) = false
+
+-- a literal number: its scale, and its word, where that is below 2^63
+unfoldable pub literal_rule : ℕ → Option ℕ → Result NodeType TypeKind
+literal_rule scale word = judged ((kind.Scale, nat_lt MOST_FIELD_SCALE scale) ∷ (kind.TooLarge, is_missing word) ∷ []) (Local Number scale)
 
 -- how far two scales are apart
 abbrev pub apart : ℕ → ℕ → ℕ
@@ -214,7 +219,7 @@ abbrev pub is_outside : ℕ → IndexRange → Bool
 is_outside side (UpTo most) = not (nat_lt most side)
 is_outside side index = false
 
--- whether each index has its side, and lies in it
+-- one index for each side of a vector or a matrix
 abbrev pub is_entry : NodeType → List IndexRange → Bool
 is_entry (Local (Vector n) scale) (i ∷ []) = true
 is_entry (Local (Matrix m n) scale) (i ∷ j ∷ []) = true
@@ -225,11 +230,34 @@ is_entry_outside (Local (Vector n) scale) (i ∷ []) = is_outside n i
 is_entry_outside (Local (Matrix m n) scale) (i ∷ j ∷ []) = is_outside m i || is_outside n j
 is_entry_outside type indices = false
 
--- an entry of a vector or a matrix of a function
-unfoldable pub entry_rule : NodeType → List IndexRange → Result NodeType TypeKind
-entry_rule type indices =
-    judged ((kind.NotConstant, list_any is_unknown indices) ∷ (kind.Shape, not (is_entry type indices)) ∷ (kind.TooLarge, is_entry_outside type indices) ∷ [])
-    (Local Number (scale_of type))
+abbrev pub is_empty : List IndexRange → Bool
+is_empty [] = true
+is_empty (i ∷ indices) = false
+
+-- the whole value, or one of its entries
+abbrev pub is_part : NodeType → List IndexRange → Bool
+is_part type indices = is_empty indices || is_entry type indices
+
+abbrev pub part_of : NodeType → List IndexRange → NodeType
+part_of type indices = if is_empty indices then type else Local Number (scale_of type)
+
+-- of so many endpoints one is named; what is no field of an endpoint names none
+abbrev pub is_endpoint : Option ℕ → List IndexRange → Bool
+is_endpoint (Some count) (place ∷ []) = true
+is_endpoint (Some count) places = false
+is_endpoint None places = is_empty places
+
+abbrev pub is_endpoint_outside : Option ℕ → List IndexRange → Bool
+is_endpoint_outside (Some count) places = list_any (is_outside count) places
+is_endpoint_outside None places = false
+
+-- a value of a function, or an entry of it; of one out of so many endpoints, or of none
+unfoldable pub part_rule : Option ℕ → NodeType → List IndexRange → List IndexRange → Result NodeType TypeKind
+part_rule endpoints type places indices =
+    judged ((kind.NotConstant, list_any is_unknown places || list_any is_unknown indices)
+    ∷ (kind.Shape, not (is_endpoint endpoints places && is_part type indices))
+    ∷ (kind.TooLarge, is_endpoint_outside endpoints places || is_entry_outside type indices) ∷ [])
+    (part_of type indices)
 
 -- a value has so many indices as its view: none for a number, one over a set, two over a pair of sets
 abbrev pub has_rank : NodeType → ℕ → Bool
@@ -240,3 +268,55 @@ has_rank (SystemMatrix rows columns block scale) rank = rank == 2
 -- a reference with so many indices
 unfoldable pub rank_rule : NodeType → ℕ → Result NodeType TypeKind
 rank_rule type rank = judged ((kind.Shape, not (has_rank type rank)) ∷ []) type
+
+-- ---- declarations
+
+-- a side of a block isn't at least 1, or is over the limit
+abbrev pub is_no_side : Option ℕ → Bool
+is_no_side None = false
+is_no_side (Some side) = (side == 0) || nat_lt MOST_SIDE side
+
+-- a scale over a limit
+abbrev pub is_scale_past : ℕ → Option ℕ → Bool
+is_scale_past most None = false
+is_scale_past most (Some scale) = nat_lt most scale
+
+abbrev pub or_zero : Option ℕ → ℕ
+or_zero None = 0
+or_zero (Some number) = number
+
+-- the block of no side, of one or of two
+abbrev pub block_of_sides : List (Option ℕ) → BlockShape
+block_of_sides (side ∷ []) = Vector (or_zero side)
+block_of_sides (rows ∷ columns ∷ []) = Matrix (or_zero rows) (or_zero columns)
+block_of_sides sides = Number
+
+-- a block that is declared, with its sides and its scale, which are written as whole numbers
+unfoldable pub declared_rule : ℕ → List (Option ℕ) → Option ℕ → Result NodeType TypeKind
+declared_rule most sides scale =
+    judged ((kind.NotConstant, is_missing scale || list_any is_missing sides) ∷ (kind.Scale, is_scale_past most scale) ∷ (kind.TooLarge, list_any is_no_side sides) ∷ [])
+    (Local (block_of_sides sides) (or_zero scale))
+
+-- ---- several parts of one node
+
+-- the place of a kind in their order
+abbrev pub rank : TypeKind → ℕ
+rank kind.Unknown = 0
+rank kind.Twice = 1
+rank kind.NotConstant = 2
+rank kind.NotAPlace = 3
+rank kind.Shape = 4
+rank kind.Set = 5
+rank kind.Scale = 6
+rank kind.TooLarge = 7
+
+-- the kind of a fault, if there is one
+abbrev pub kind_of : {A : Type 0} → Result A TypeKind → Option TypeKind
+kind_of (Ok value) = None
+kind_of (Err fault) = Some fault
+
+-- of the kinds that apply to two parts, the first in their order
+abbrev pub earlier : Option TypeKind → Option TypeKind → Option TypeKind
+earlier None other = other
+earlier (Some fault) None = Some fault
+earlier (Some fault) (Some other) = if nat_lt (rank other) (rank fault) then Some other else Some fault

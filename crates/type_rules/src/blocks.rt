@@ -179,7 +179,7 @@ fn is_outside(side: u32, index: IndexRange) -> bool
     ensures { result ≡ spec.is_outside side index }
 {
     match index {
-        IndexRange::UpTo(most) => most >= side,
+        IndexRange::UpTo(most) => most >= u64::from(side),
         _ => false,
     }
 }
@@ -247,24 +247,75 @@ fn has_unknown(indices: &[IndexRange]) -> bool
     indices.iter().any(|index| is_unknown(*index))
 }
 
-/// The type of an entry of a vector or a matrix of a function.
-#[tactic(auto, unfolding(crate::specs::Rules::entry_rule))]
-pub fn entry_rule(value: NodeType, indices: &[IndexRange]) -> Result<NodeType, TypeKind>
-    ensures { result ≡ spec.entry_rule value indices.now }
+/// Whether the indices name the whole value, or one of its entries.
+fn is_part(value: NodeType, indices: &[IndexRange]) -> bool
+    ensures { result ≡ spec.is_part value indices.now }
 {
-    if has_unknown(indices) {
+    indices.is_empty() || is_entry(value, indices)
+}
+
+/// The type of the whole value, or of an entry.
+fn part_of(value: NodeType, indices: &[IndexRange]) -> NodeType
+    ensures { result ≡ spec.part_of value indices.now }
+{
+    if indices.is_empty() {
+        value
+    } else {
+        NodeType::Local {
+            block: BlockShape::Number,
+            scale: scale_of(value),
+        }
+    }
+}
+
+/// Whether one is named of so many endpoints, or none of no endpoints.
+fn is_endpoint(endpoints: Option<u32>, places: &[IndexRange]) -> bool
+    ensures { result ≡ spec.is_endpoint endpoints places.now }
+{
+    match (endpoints, places) {
+        (Some(_), [_]) => true,
+        (Some(_), _) => false,
+        (None, _) => places.is_empty(),
+    }
+}
+
+/// Whether one of the indices has a value that isn't below the count.
+fn has_outside(count: u32, places: &[IndexRange]) -> bool
+    ensures { result ≡ list_any (spec.is_outside count) places.now }
+{
+    places.iter().any(|place| is_outside(count, *place))
+}
+
+/// Whether the named endpoint isn't among so many.
+fn is_endpoint_outside(endpoints: Option<u32>, places: &[IndexRange]) -> bool
+    ensures { result ≡ spec.is_endpoint_outside endpoints places.now }
+{
+    match endpoints {
+        Some(count) => has_outside(count, places),
+        None => false,
+    }
+}
+
+/// The type of a value of a function, or of an entry of it: of one out of so many endpoints, or of no endpoint.
+#[tactic(auto, unfolding(crate::specs::Rules::part_rule))]
+pub fn part_rule(
+    endpoints: Option<u32>,
+    value: NodeType,
+    places: &[IndexRange],
+    indices: &[IndexRange],
+) -> Result<NodeType, TypeKind>
+    ensures { result ≡ spec.part_rule endpoints value places.now indices.now }
+{
+    if has_unknown(places) || has_unknown(indices) {
         return Err(TypeKind::NotConstant);
     }
-    if !is_entry(value, indices) {
+    if !(is_endpoint(endpoints, places) && is_part(value, indices)) {
         return Err(TypeKind::Shape);
     }
-    if is_entry_outside(value, indices) {
+    if is_endpoint_outside(endpoints, places) || is_entry_outside(value, indices) {
         return Err(TypeKind::TooLarge);
     }
-    Ok(NodeType::Local {
-        block: BlockShape::Number,
-        scale: scale_of(value),
-    })
+    Ok(part_of(value, indices))
 }
 
 /// Whether a value has so many indices as its view: none for a number, one over a set, two over a pair of sets.

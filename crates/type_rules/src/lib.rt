@@ -3,12 +3,16 @@
 #![tactic(auto)]
 
 mod blocks;
+mod declarations;
+mod order;
 mod products;
 mod scales;
 mod sums;
 mod types;
 
-pub use blocks::{block_rule, entry_rule, rank_rule, transposed_rule};
+pub use blocks::{block_rule, part_rule, rank_rule, transposed_rule};
+pub use declarations::declared_rule;
+pub use order::earlier;
 pub use products::{dot_rule, entrywise_rule, product_rule};
 pub use scales::{isqrt_rule, literal_rule, quot_rule, rescale_rule};
 pub use sums::{comparison_rule, same_rule};

@@ -1,9 +1,7 @@
 //! Products: of numbers, of matrices and vectors, and entry by entry.
 
-ghost use Rattle.std.specs.Prelude.{◌≡◌, ◌≤◌};
-ghost use Rattle.vocabulary.specs.declared.limits.TheConstants.{MOST_SCALE};
+ghost use Rattle.std.specs.Prelude.{◌≡◌};
 ghost use Rattle.type_rules.specs.Rules as spec;
-ghost use Rattle.type_rules.specs.Types.{scale_of};
 
 use crate::types::{
     BlockShape, NodeType, TypeKind, is_over_the_same, is_same_block, is_scalar, scale_of,
@@ -112,14 +110,21 @@ fn is_inner_the_same(left: NodeType, right: NodeType) -> bool
     }
 }
 
+/// The scale of a product, or the first that is too large.
+fn scales_added(left: NodeType, right: NodeType) -> u32
+    ensures { result ≡ spec.scales_added left right }
+{
+    scale_of(left)
+        .saturating_add(scale_of(right))
+        .min(MOST_SCALE + 1)
+}
+
 /// The type of a product: a number times anything, a matrix times a vector or a matrix. The scales are added.
 #[tactic(auto, unfolding(crate::specs::Rules::product_rule))]
 pub fn product_rule(left: NodeType, right: NodeType) -> Result<NodeType, TypeKind>
-    requires small_left { scale_of left ≤ MOST_SCALE }
-    requires small_right { scale_of right ≤ MOST_SCALE }
     ensures { result ≡ spec.product_rule left right }
 {
-    let scale = scale_of(left) + scale_of(right);
+    let scale = scales_added(left, right);
     let Some(product) = product_form(scale, left, right) else {
         return Err(TypeKind::Shape);
     };
@@ -156,8 +161,6 @@ fn are_vectors(left: NodeType, right: NodeType) -> bool
 
 /// The scale of a product of two vectors entry by entry.
 fn vectors_scale(left: NodeType, right: NodeType) -> Result<u32, TypeKind>
-    requires small_left { scale_of left ≤ MOST_SCALE }
-    requires small_right { scale_of right ≤ MOST_SCALE }
     ensures { result ≡ spec.judged (spec.vector_faults left right) (spec.scales_added left right) }
 {
     if !are_vectors(left, right) {
@@ -166,7 +169,7 @@ fn vectors_scale(left: NodeType, right: NodeType) -> Result<u32, TypeKind>
     if !is_over_the_same(left, right) {
         return Err(TypeKind::Set);
     }
-    let scale = scale_of(left) + scale_of(right);
+    let scale = scales_added(left, right);
     if scale > MOST_SCALE {
         return Err(TypeKind::Scale);
     }
@@ -176,8 +179,6 @@ fn vectors_scale(left: NodeType, right: NodeType) -> Result<u32, TypeKind>
 /// The type of a product entry by entry of two vectors of one shape. The scales are added.
 #[tactic(auto, unfolding(crate::specs::Rules::entrywise_rule))]
 pub fn entrywise_rule(left: NodeType, right: NodeType) -> Result<NodeType, TypeKind>
-    requires small_left { scale_of left ≤ MOST_SCALE }
-    requires small_right { scale_of right ≤ MOST_SCALE }
     ensures { result ≡ spec.entrywise_rule left right }
 {
     let scale = vectors_scale(left, right)?;
@@ -187,8 +188,6 @@ pub fn entrywise_rule(left: NodeType, right: NodeType) -> Result<NodeType, TypeK
 /// The type of the sum over all entries of the products of two vectors of one shape: a number. The scales are added.
 #[tactic(auto, unfolding(crate::specs::Rules::dot_rule))]
 pub fn dot_rule(left: NodeType, right: NodeType) -> Result<NodeType, TypeKind>
-    requires small_left { scale_of left ≤ MOST_SCALE }
-    requires small_right { scale_of right ≤ MOST_SCALE }
     ensures { result ≡ spec.dot_rule left right }
 {
     let scale = vectors_scale(left, right)?;

@@ -44,7 +44,7 @@ pub enum IndexRange {
     /// None: it is the variable of a loop that has no turns.
     Never,
     /// None above this one, which it takes.
-    UpTo(u32),
+    UpTo(u64),
 }
 
 /// Why a program has no types. Where several kinds apply at one node, the first in this order is named.

@@ -1,0 +1,10 @@
+pub mod Names
+pub mod Steps
+pub mod Literals
+pub mod Expressions
+pub mod Walking
+pub mod Functions
+pub mod MainProcedure
+pub mod Cost
+pub mod Declarations
+pub mod Typed

@@ -1,0 +1,32 @@
+-- Numbers of a program's text.
+use Rattle.std.specs.Prelude.{ℕ, suc, ◌-◌, ◌^◌, ◌==◌, ◌||◌, Bool, nat_lt, List, length, Option, Some, None, Result, Ok, Err, if◌then◌else◌}
+use Rattle.std.specs.List.{list_any, position_or_len}
+use Rattle.std.specs.Result.{result_ok}
+use Rattle.vocabulary.specs.declared.limits.TheConstants.{MOST_FIELD_SCALE, MOST_PROGRAM_BYTES}
+use Rattle.vocabulary.specs.declared.marks.TheConstants.{POINT}
+use Rattle.ring_words.specs.Cell.{cell}
+use Rattle.ring_words.specs.declared.cells.CellFault.{CellFault}
+
+abbrev pub is_point : ℕ → Bool
+is_point b = b == POINT
+
+-- how many digits stand after the point
+abbrev pub decimals_of : List ℕ → ℕ
+decimals_of digits = length digits - suc (position_or_len is_point digits)
+
+-- a text has at most MOST_PROGRAM_BYTES bytes, and no token is longer
+abbrev pub is_long : List ℕ → Bool
+is_long digits = nat_lt MOST_PROGRAM_BYTES (length digits)
+
+-- the word of a literal at its own scale, where it is below 2^63
+abbrev pub literal_word : List ℕ → Option ℕ
+literal_word digits =
+    if nat_lt MOST_FIELD_SCALE (decimals_of digits) || is_long digits then None else result_ok (cell (decimals_of digits) digits)
+
+abbrev pub or_large : Result ℕ CellFault → ℕ
+or_large (Ok word) = word
+or_large (Err fault) = 2 ^ 63
+
+-- the whole number that digits state, where it has no point; one of 2^63 or more is taken for 2^63
+abbrev pub whole : List ℕ → Option ℕ
+whole digits = if list_any is_point digits then None else Some (if is_long digits then 2 ^ 63 else or_large (cell 0 digits))
