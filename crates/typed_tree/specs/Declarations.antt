@@ -44,14 +44,14 @@ use Rattle.typed_tree.specs.declared.names.Meaning.{Meaning}
 use Rattle.typed_tree.specs.declared.names.Meaning.TheVariants as meaning
 use Rattle.typed_tree.specs.declared.program.ElementType.{ElementType}
 use Rattle.typed_tree.specs.declared.program.TypedField.{TypedField}
+use Rattle.typed_tree.specs.declared.program.SetShape.{SetShape}
 use Rattle.typed_tree.specs.declared.program.TypedSet.{TypedSet}
 use Rattle.typed_tree.specs.Names.{Known, Name, meaning_of, is_known, with_meaning}
 use Rattle.typed_tree.specs.Literals.{whole}
 use Rattle.typed_tree.specs.Steps.{Step, at_line, several}
-use Rattle.typed_tree.specs.Expressions.{fields_of}
+use Rattle.typed_tree.specs.Lookups.{fields_of, element_named, set_named}
 use Rattle.typed_tree.specs.Walking.{ended, is_visible, naming, naming_local, with_declarations, with_names}
 use Rattle.typed_tree.specs.Functions.{statements}
-use Rattle.typed_tree.specs.MainProcedure.{set_named}
 use Rattle.typed_tree.specs.Cost.{body_cost, entries_in}
 
 -- ---- several rules of one node
@@ -143,15 +143,8 @@ element_decl line name fields walk = do
 
 -- ---- sets
 
-abbrev pub element_named : Environment → Name → Option ℕ
-element_named env name = among (meaning_of env.names name)
-  where
-    among : Option Meaning → Option ℕ
-    among (Some (meaning.Element number)) = Some number
-    among other = None
-
 abbrev pub End : Type 0
-End = Option (ℕ × TypedSet)
+End = Option (ℕ × SetShape)
 
 -- the endpoints lie in one set, which is a vertex set
 abbrev pub lies_in : ℕ → End → Bool
@@ -187,7 +180,7 @@ with_set walk name element ends =
     let known = walk.environment.declarations in
     declaring walk (record {
       elements = known.elements;
-      sets = known.sets ++ record { name = name; element = element; over = over_of ends; arity = length ends } ∷ [];
+      sets = known.sets ++ record { name = name; shape = record { element = element; over = over_of ends; arity = length ends } } ∷ [];
       functions = known.functions;
       variables = known.variables;
     }) name (meaning.Set (length known.sets))

@@ -1,8 +1,6 @@
 -- The types of expressions.
-use Rattle.std.specs.Prelude.{ℕ, suc, zero, ◌==◌, Bool, true, false, not, ◌||◌, List, [], ◌∷◌, ◌++◌, map, position, slice_get, Option, Some, None, Result, Ok, Err, if◌then◌else◌}
+use Rattle.std.specs.Prelude.{ℕ, suc, zero, ◌==◌, Bool, true, false, not, ◌||◌, List, [], ◌∷◌, ◌++◌, map, Option, Some, None, Result, Ok, Err, if◌then◌else◌}
 use Rattle.std.specs.List.{list_any}
-use Rattle.std.specs.Option.{option_map_or, option_map, option_and_then}
-use Rattle.std.specs.Str.{bytes_eq}
 use Rattle.vocabulary.specs.Answers.{◌>>=◌, fold_result}
 use Rattle.sim_syntax.specs.declared.expression.Expr as tree
 use Rattle.sim_syntax.specs.declared.expression.Expr.TheOpen.{Expr-F, Row-F, SumTerm-F, ProductFactor-F}
@@ -34,14 +32,12 @@ use Rattle.typed_tree.specs.declared.expression.TypedFactor.{TypedFactor, roll-T
 use Rattle.typed_tree.specs.declared.condition.TypedCond.{TypedCond}
 use Rattle.typed_tree.specs.declared.condition.TypedConjunction.{TypedConjunction}
 use Rattle.typed_tree.specs.declared.condition.TypedCmp.{TypedCmp}
-use Rattle.typed_tree.specs.declared.environment.Declarations.{Declarations}
 use Rattle.typed_tree.specs.declared.environment.Environment.{Environment}
 use Rattle.typed_tree.specs.declared.environment.Level.{Level}
 use Rattle.typed_tree.specs.declared.environment.Level.TheVariants.{Function, Main}
 use Rattle.typed_tree.specs.declared.names.Meaning.{Meaning}
 use Rattle.typed_tree.specs.declared.names.Meaning.TheVariants as meaning
-use Rattle.typed_tree.specs.declared.program.ElementType.{ElementType}
-use Rattle.typed_tree.specs.declared.program.TypedField.{TypedField}
+use Rattle.typed_tree.specs.Lookups.{fields_of, element_in, find_field, over_set}
 use Rattle.typed_tree.specs.Names.{Name, meaning_of}
 use Rattle.typed_tree.specs.Literals.{decimals_of, literal_word, whole}
 use Rattle.typed_tree.specs.Steps.{Step, at_line, several}
@@ -121,39 +117,17 @@ value_rule (Some (meaning.Ends element count)) indices = no_value indices
 value_rule (Some (meaning.Result result type)) indices = no_value indices
 value_rule other indices = Err kind.Unknown
 
-abbrev pub fields_at : Option ElementType → List TypedField
-fields_at None = []
-fields_at (Some element) = element.fields
-
--- the fields of an element type
-abbrev pub fields_of : Declarations → ℕ → List TypedField
-fields_of declarations element = fields_at (slice_get declarations.elements element)
-
-abbrev pub element_in : Declarations → ℕ → ℕ
-element_in declarations set = option_map_or (λ s. s.element) (slice_get declarations.sets set) 0
-
--- a field by its name: its number, and what it is
-abbrev pub find_field : List TypedField → Name → Option (ℕ × TypedField)
-find_field fields name =
-    option_and_then (λ number. option_map (λ field. (number, field)) (slice_get fields number)) (position (λ f. bytes_eq f.name name) fields)
-
-abbrev pub local_type : TypedField → NodeType
-local_type field = type.Local field.block field.scale
-
-abbrev pub vector_type : ℕ → TypedField → NodeType
-vector_type set field = type.SystemVector set field.block field.scale
-
 -- a field of what a name stands for: of a set in the main procedure, of an element or endpoints in a function
-unfoldable pub set_member : Level → ℕ → Option (ℕ × TypedField) → List IndexRange → Found
-set_member Main set (Some field) indices = found (referent.Field set field.0) (whole_rule (vector_type set field.1) indices)
+unfoldable pub set_member : Level → ℕ → Option (ℕ × NodeType) → List IndexRange → Found
+set_member Main set (Some field) indices = found (referent.Field set field.0) (whole_rule (over_set set field.1) indices)
 set_member level set field indices = Err kind.Unknown
 
-unfoldable pub own_member : Option (ℕ × TypedField) → List IndexRange → List IndexRange → Found
-own_member (Some field) places indices = found (referent.Own field.0) (part_rule None (local_type field.1) places indices)
+unfoldable pub own_member : Option (ℕ × NodeType) → List IndexRange → List IndexRange → Found
+own_member (Some field) places indices = found (referent.Own field.0) (part_rule None field.1 places indices)
 own_member None places indices = Err kind.Unknown
 
-unfoldable pub end_member : ℕ → Option (ℕ × TypedField) → List IndexRange → List IndexRange → Found
-end_member count (Some field) places indices = found (referent.End field.0) (part_rule (Some count) (local_type field.1) places indices)
+unfoldable pub end_member : ℕ → Option (ℕ × NodeType) → List IndexRange → List IndexRange → Found
+end_member count (Some field) places indices = found (referent.End field.0) (part_rule (Some count) field.1 places indices)
 end_member count None places indices = Err kind.Unknown
 
 unfoldable pub member_rule : Environment → Option Meaning → Name → List IndexRange → List IndexRange → Found

@@ -1,6 +1,7 @@
 pub mod Names
 pub mod Steps
 pub mod Literals
+pub mod Lookups
 pub mod Expressions
 pub mod Walking
 pub mod Functions

@@ -27,6 +27,10 @@ abbrev pub or_large : Result ℕ CellFault → ℕ
 or_large (Ok word) = word
 or_large (Err fault) = 2 ^ 63
 
--- the whole number that digits state, where it has no point; one of 2^63 or more is taken for 2^63
+-- the whole number of digits without a point; one of 2^63 or more is taken for 2^63
+abbrev pub whole_number : List ℕ → ℕ
+whole_number digits = if is_long digits then 2 ^ 63 else or_large (cell 0 digits)
+
+-- the whole number that digits state, where they have no point
 abbrev pub whole : List ℕ → Option ℕ
-whole digits = if list_any is_point digits then None else Some (if is_long digits then 2 ^ 63 else or_large (cell 0 digits))
+whole digits = if list_any is_point digits then None else Some (whole_number digits)

@@ -30,8 +30,7 @@ use Rattle.typed_tree.specs.declared.main_procedure.TypedRight.TheVariants as ty
 use Rattle.typed_tree.specs.declared.main_procedure.TypedTarget.{TypedTarget}
 use Rattle.typed_tree.specs.declared.main_procedure.TypedTarget.TheVariants as target
 use Rattle.typed_tree.specs.declared.main_procedure.RightSide.{RightSide}
-use Rattle.typed_tree.specs.declared.program.TypedSet.{TypedSet}
-use Rattle.typed_tree.specs.declared.program.TypedField.{TypedField}
+use Rattle.typed_tree.specs.declared.program.SetShape.{SetShape}
 use Rattle.typed_tree.specs.declared.environment.Declarations.{Declarations}
 use Rattle.typed_tree.specs.declared.environment.Environment.{Environment}
 use Rattle.typed_tree.specs.declared.environment.Walk.{Walk}
@@ -39,14 +38,15 @@ use Rattle.typed_tree.specs.declared.names.Meaning.{Meaning}
 use Rattle.typed_tree.specs.declared.names.Meaning.TheVariants as meaning
 use Rattle.typed_tree.specs.Names.{Known, Name, meaning_of, is_known, with_meaning}
 use Rattle.typed_tree.specs.Steps.{Step, at_line}
-use Rattle.typed_tree.specs.Expressions.{type_of, find_field, fields_of, element_in, vector_type}
+use Rattle.typed_tree.specs.Expressions.{type_of}
+use Rattle.typed_tree.specs.Lookups.{fields_of, element_in, find_field, over_set, set_named, function_named}
 use Rattle.typed_tree.specs.Walking.{value, values, cond, counted, misplaced, inside, scoped, naming_local, is_visible, with_names}
 use Rattle.typed_tree.specs.Functions.{earliest}
 
 -- ---- maps
 
 -- a function takes the elements of a set, and their endpoints, where it has any
-abbrev pub takes_endpoints : Declarations → TypedSet → Option Endpoints → Bool
+abbrev pub takes_endpoints : Declarations → SetShape → Option Endpoints → Bool
 takes_endpoints declarations set None = true
 takes_endpoints declarations set (Some ends) = over_element set.over
   where
@@ -70,7 +70,7 @@ abbrev pub is_result_of : ℕ → Option ℕ → TypedResult → Bool
 is_result_of set over result = is_side_of set over result.rows && is_column_of set over result.columns
 
 -- a function may be mapped to a set
-abbrev pub may_be_mapped : Declarations → TypedFunction → ℕ → TypedSet → Bool
+abbrev pub may_be_mapped : Declarations → TypedFunction → ℕ → SetShape → Bool
 may_be_mapped declarations function number set =
     (function.element == set.element) && takes_endpoints declarations set function.endpoints && list_all (is_result_of number set.over) function.results
 
@@ -83,7 +83,7 @@ abbrev pub have_scales : List ℕ → List NodeType → Bool
 have_scales (scale ∷ scales) (arg ∷ args) = (scale == scale_of arg) && have_scales scales args
 have_scales scales args = true
 
-unfoldable pub map_rule : Declarations → TypedFunction → ℕ → TypedSet → List NodeType → Option TypeKind
+unfoldable pub map_rule : Declarations → TypedFunction → ℕ → SetShape → List NodeType → Option TypeKind
 map_rule declarations function number set args =
     first_kind ((kind.Shape, not (are_arguments function args)) ∷ (kind.Set, not (may_be_mapped declarations function number set))
     ∷ (kind.Scale, not (have_scales function.arguments args)) ∷ [])
@@ -98,22 +98,8 @@ result_type result = over_columns result.columns
 
 -- ---- right sides
 
-abbrev pub function_named : Environment → Name → Option (ℕ × TypedFunction)
-function_named env name = among (meaning_of env.names name)
-  where
-    among : Option Meaning → Option (ℕ × TypedFunction)
-    among (Some (meaning.Function number)) = option_map (λ function. (number, function)) (slice_get env.declarations.functions number)
-    among other = None
-
-abbrev pub set_named : Environment → Name → Option (ℕ × TypedSet)
-set_named env name = among (meaning_of env.names name)
-  where
-    among : Option Meaning → Option (ℕ × TypedSet)
-    among (Some (meaning.Set number)) = option_map (λ set. (number, set)) (slice_get env.declarations.sets number)
-    among other = None
-
 -- a map of a function to a set: what it answers, the types of its results, and its fault
-unfoldable pub map_side : Declarations → Option (ℕ × TypedFunction) → Option (ℕ × TypedSet) → List TypedExpr → RightSide
+unfoldable pub map_side : Declarations → Option (ℕ × TypedFunction) → Option (ℕ × SetShape) → List TypedExpr → RightSide
 map_side declarations (Some function) (Some set) args = record {
   typed = typed_right.Map function.0 set.0 args;
   types = map result_type function.1.results;
@@ -187,9 +173,9 @@ variable_aim other = Err kind.Unknown
 unfoldable pub field_aim : Declarations → Option Meaning → Name → Aim
 field_aim declarations (Some (meaning.Set set)) name = among (find_field (fields_of declarations (element_in declarations set)) name)
   where
-    among : Option (ℕ × TypedField) → Aim
+    among : Option (ℕ × NodeType) → Aim
     among None = Err kind.Unknown
-    among (Some field) = Ok (target.Field set field.0, vector_type set field.1)
+    among (Some field) = Ok (target.Field set field.0, over_set set field.1)
 field_aim declarations other name = Err kind.Unknown
 
 abbrev pub aim_at : Environment → Name → Option Name → Aim

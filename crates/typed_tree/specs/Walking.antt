@@ -76,14 +76,18 @@ counted line None walk =
 abbrev pub misplaced : {A : Type 0} → ℕ → Step Walk A
 misplaced line walk = Err (IllTyped line kind.Shape)
 
+-- so many names and locals are visible, those that were declared first
+abbrev pub cut_back : ℕ → ℕ → Walk → Walk
+cut_back names locals walk = record {
+  environment = with_names walk.environment (take names walk.environment.names);
+  nodes = walk.nodes;
+  statements = walk.statements;
+  locals = locals;
+}
+
 -- the end of a list of statements: what was declared in it is no longer visible
 abbrev pub ended : Walk → Walk → Walk
-ended before after = record {
-  environment = with_names after.environment (take (length before.environment.names) after.environment.names);
-  nodes = after.nodes;
-  statements = after.statements;
-  locals = before.locals;
-}
+ended before after = cut_back (length before.environment.names) before.locals after
 
 -- the statements of a list, which begins with some names of its own
 unfoldable pub inside : {A : Type 0} → (Walk → Walk) → List (Step Walk A) → Step Walk (List A)

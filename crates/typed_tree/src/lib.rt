@@ -7,9 +7,12 @@ mod environment;
 mod expression;
 mod fault;
 mod function;
+mod literals;
+mod lookups;
 mod main_procedure;
 mod names;
 mod program;
+mod walk;
 
 pub use condition::{TypedCmp, TypedCond, TypedConjunction};
 pub use environment::{Declarations, Environment, Level, Walk};
@@ -19,6 +22,8 @@ pub use function::{
     Endpoints, FunctionStmt, ParameterType, PlaceIndex, ResultSide, Signature, TypedFunction,
     TypedResult, WrittenPlace,
 };
+pub use literals::{decimals_of, literal_word, whole};
+pub use lookups::{field_type, find_field, over_set};
 pub use main_procedure::{MainStmt, RightSide, TypedRight, TypedTarget};
 pub use names::{Meaning, Names};
-pub use program::{ElementType, TypedField, TypedProgram, TypedSet, Variable};
+pub use program::{ElementType, SetShape, TypedField, TypedProgram, TypedSet, Variable};

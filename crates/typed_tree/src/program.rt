@@ -25,6 +25,12 @@ pub struct ElementType {
 #[derive(Drop)]
 pub struct TypedSet {
     pub name: Text,
+    pub shape: SetShape,
+}
+
+/// What the elements of a set are and join.
+#[derive(Clone, Copy, Debug, PartialEq, Eq)]
+pub struct SetShape {
     /// The type of its elements.
     pub element: u32,
     /// The vertex set in which its endpoints lie; none for a vertex set.

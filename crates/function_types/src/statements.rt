@@ -1,0 +1,20 @@
+//! Statements of functions.
+
+ghost use Rattle.typed_tree.specs.Steps.{Walks};
+ghost use Rattle.typed_tree.specs.Functions as spec;
+
+use sim_syntax::Stmt;
+use sqlite_items::Items;
+use std::alloc::Global;
+use typed_tree::{CheckFault, FunctionStmt, Walk};
+
+/// The statements of a list, one after the other. What they declare is visible in the list alone.
+pub fn function_statements<'a>(
+    alloc: Global,
+    body: &'a [Stmt],
+    walk: &mut Walk<'a>,
+) -> Result<Items<FunctionStmt>, CheckFault>
+    ensures { Walks (spec.statements body.now walk.old) result walk.new }
+{
+    Err(CheckFault::Memory)
+}
