@@ -1,6 +1,7 @@
 -- Numbers of a program's text.
-use Rattle.std.specs.Prelude.{ℕ, suc, ◌-◌, ◌^◌, ◌==◌, ◌||◌, Bool, nat_lt, List, length, Option, Some, None, Result, Ok, Err, if◌then◌else◌}
-use Rattle.std.specs.List.{list_any, position_or_len}
+use Rattle.std.specs.Prelude.{ℕ, suc, ◌-◌, ◌^◌, ◌==◌, ◌||◌, Bool, nat_lt, List, length, position, Option, Some, None, Result, Ok, Err, if◌then◌else◌}
+use Rattle.std.specs.List.{list_any}
+use Rattle.std.specs.Option.{option_map_or}
 use Rattle.std.specs.Result.{result_ok}
 use Rattle.vocabulary.specs.declared.limits.TheConstants.{MOST_FIELD_SCALE, MOST_PROGRAM_BYTES}
 use Rattle.vocabulary.specs.declared.marks.TheConstants.{POINT}
@@ -12,7 +13,7 @@ is_point b = b == POINT
 
 -- how many digits stand after the point
 abbrev pub decimals_of : List ℕ → ℕ
-decimals_of digits = length digits - suc (position_or_len is_point digits)
+decimals_of digits = option_map_or (λ at. length digits - suc at) (position is_point digits) 0
 
 -- a text has at most MOST_PROGRAM_BYTES bytes, and no token is longer
 abbrev pub is_long : List ℕ → Bool

@@ -1,25 +1,28 @@
 //! Numbers of a program's text.
 
-ghost use Rattle.std.specs.Prelude.{◌≡◌};
-ghost use Rattle.std.specs.List.{list_any, position_or_len};
+ghost use Rattle.std.specs.Prelude.{◌≡◌, position};
+ghost use Rattle.std.specs.List.{list_any};
 ghost use Rattle.typed_tree.specs.Literals as spec;
 
 use ring_words::read_cell;
 use vocabulary::limits::{MOST_FIELD_SCALE, MOST_PROGRAM_BYTES};
 use vocabulary::marks::POINT;
 
-/// How many digits stand before the point, or at all.
-fn digits_before_point(digits: &[u8]) -> usize
-    ensures { result ≡ position_or_len spec.is_point digits.now }
+/// The offset of the point.
+fn point_in(digits: &[u8]) -> Option<usize>
+    ensures { result ≡ position spec.is_point digits.now }
 {
-    digits.iter().position(|b| *b == POINT).unwrap_or(digits.len())
+    digits.iter().position(|b| *b == POINT)
 }
 
 /// How many digits stand after the point.
 pub fn decimals_of(digits: &[u8]) -> usize
     ensures { result ≡ spec.decimals_of digits.now }
 {
-    digits.len().saturating_sub(digits_before_point(digits)).saturating_sub(1)
+    match point_in(digits) {
+        Some(point) => digits.len().saturating_sub(point).saturating_sub(1),
+        None => 0,
+    }
 }
 
 /// Whether digits are more than a program's text can hold.

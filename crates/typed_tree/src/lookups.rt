@@ -1,7 +1,8 @@
 //! What is declared, found by its number or by its name.
 
-ghost use Rattle.std.specs.Prelude.{◌≡◌, IfOk, slice_get};
+ghost use Rattle.std.specs.Prelude.{◌≡◌, IfOk, position, slice_get};
 ghost use Rattle.std.specs.Option.{option_map};
+ghost use Rattle.std.specs.Str.{bytes_eq};
 ghost use Rattle.typed_tree.specs.Lookups as spec;
 ghost use Rattle.typed_tree.specs.Names.{is_known};
 
@@ -82,18 +83,27 @@ pub fn field_type(field: &TypedField) -> NodeType
     }
 }
 
+/// The index of the field of a name.
+fn field_index(fields: &[TypedField], name: &str) -> Option<usize>
+    ensures { result ≡ position (λ f. bytes_eq f.name name.now) fields.now }
+{
+    fields
+        .iter()
+        .position(|field| field.name.has_bytes(name.as_bytes()))
+}
+
 /// A field by its name: its number and its type.
 pub fn find_field(fields: &[TypedField], name: &str) -> Result<Option<(u32, NodeType)>, NoMemory>
     ensures { IfOk result (λ found. found ≡ spec.find_field fields.now name.now) }
 {
-    let Some(number) = fields.iter().position(|field| field.name.has_bytes(name.as_bytes())) else {
+    let Some(index) = field_index(fields, name) else {
         return Ok(None);
     };
-    let Ok(stated) = u32::try_from(number) else {
+    let Ok(number) = u32::try_from(index) else {
         return Err(NoMemory);
     };
-    match fields.get(number) {
-        Some(field) => Ok(Some((stated, field_type(field)))),
+    match fields.get(index) {
+        Some(field) => Ok(Some((number, field_type(field)))),
         None => Ok(None),
     }
 }
