@@ -175,7 +175,7 @@ pub fn block_rule(rows: &[L<NodeType>]) -> Result<NodeType, TypeKind>
 }
 
 /// Whether an index has a value that isn't below the side.
-fn is_outside(side: u32, index: IndexRange) -> bool
+pub fn is_outside(side: u32, index: IndexRange) -> bool
     ensures { result ≡ spec.is_outside side index }
 {
     match index {
@@ -241,7 +241,7 @@ fn is_unknown(index: IndexRange) -> bool
 }
 
 /// Whether one of the indices is neither a whole number nor a constant loop's variable.
-fn has_unknown(indices: &[IndexRange]) -> bool
+pub fn has_unknown(indices: &[IndexRange]) -> bool
     ensures { result ≡ list_any spec.is_unknown indices.now }
 {
     indices.iter().any(|index| is_unknown(*index))

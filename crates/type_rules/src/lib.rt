@@ -10,10 +10,10 @@ mod scales;
 mod sums;
 mod types;
 
-pub use blocks::{block_rule, part_rule, rank_rule, transposed_rule};
+pub use blocks::{block_rule, has_unknown, is_outside, part_rule, rank_rule, transposed_rule};
 pub use declarations::declared_rule;
 pub use order::earlier;
 pub use products::{dot_rule, entrywise_rule, product_rule};
 pub use scales::{isqrt_rule, literal_rule, quot_rule, rescale_rule};
 pub use sums::{comparison_rule, same_rule};
-pub use types::{BlockShape, IndexRange, NodeType, TypeKind, scale_of};
+pub use types::{BlockShape, IndexRange, NodeType, TypeKind, is_scalar, scale_of};
