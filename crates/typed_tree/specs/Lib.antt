@@ -9,3 +9,4 @@ pub mod MainProcedure
 pub mod Cost
 pub mod Declarations
 pub mod Typed
+pub mod Nodes

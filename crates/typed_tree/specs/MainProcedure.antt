@@ -1,6 +1,6 @@
 -- The statements of the main procedure.
 use Rattle.std.specs.Prelude.{ℕ, ◌==◌, Bool, true, false, not, ◌&&◌, ◌||◌, List, [], ◌∷◌, ◌++◌, length, map, fold, slice_get, Option, Some, None, Result, Ok, Err, if◌then◌else◌}
-use Rattle.std.specs.List.{list_all, list_any, range_with_len}
+use Rattle.std.specs.List.{list_all, list_any, range_with_len, zip}
 use Rattle.std.specs.Option.{option_map, option_and_then}
 use Rattle.vocabulary.specs.Answers.{◌>>=◌, all_ok, fold_result}
 use Rattle.sim_syntax.specs.declared.expression.Expr as tree
@@ -80,8 +80,7 @@ are_arguments function args = (length args == length function.arguments) && list
 
 -- the arguments have the scales of the parameters
 abbrev pub have_scales : List ℕ → List NodeType → Bool
-have_scales (scale ∷ scales) (arg ∷ args) = (scale == scale_of arg) && have_scales scales args
-have_scales scales args = true
+have_scales scales args = list_all (λ pair. pair.0 == scale_of pair.1) (zip scales args)
 
 unfoldable pub map_rule : Declarations → TypedFunction → ℕ → SetShape → List NodeType → Option TypeKind
 map_rule declarations function number set args =
@@ -107,24 +106,30 @@ map_side declarations (Some function) (Some set) args = record {
 }
 map_side declarations function set args = record { typed = typed_right.Map 0 0 args; types = []; fault = Some kind.Unknown }
 
-unfoldable pub right_side : Right → Step Walk RightSide
-right_side (right.Value e) walk = do
+unfoldable pub value_side : tree.Expr → Step Walk RightSide
+value_side e walk = do
   v ← value e walk
   Ok (record { typed = typed_right.Value v.0; types = type_of v.0 ∷ []; fault = None }, v.1)
-right_side (right.Map line function args set) walk = do
+
+unfoldable pub mapped_side : Name → List tree.Expr → Name → Step Walk RightSide
+mapped_side function args set walk = do
   vs ← values args walk
   Ok (map_side vs.1.environment.declarations (function_named vs.1.environment function) (set_named vs.1.environment set) vs.0, vs.1)
+
+unfoldable pub right_side : Right → Step Walk RightSide
+right_side (right.Value e) walk = value_side e walk
+right_side (right.Map line function args set) walk = mapped_side function args set walk
 right_side (right.Ix line free terms) walk = misplaced line walk
 
 -- ---- new variables
 
--- names that are new, each also after those before it
-abbrev pub are_new : Known → List Name → Bool
-are_new known [] = true
-are_new known (name ∷ names) = not (is_known known name) && are_new (with_meaning known name meaning.Taken) names
+-- names that are new: they aren't known, and are none of those before them
+abbrev pub are_new : Known → Known → List Name → Bool
+are_new known before [] = true
+are_new known before (name ∷ names) = not (is_known known name || is_known before name) && are_new known (with_meaning before name meaning.Taken) names
 
 unfoldable pub names_fault : Known → List Name → ℕ → Option TypeKind
-names_fault known names values = first_kind ((kind.Twice, not (are_new known names)) ∷ (kind.Shape, not (length names == values)) ∷ [])
+names_fault known names values = first_kind ((kind.Twice, not (are_new known [] names)) ∷ (kind.Shape, not (length names == values)) ∷ [])
 
 -- a variable of the main procedure
 unfoldable pub with_variable : Walk → Name → NodeType → Walk
@@ -198,13 +203,17 @@ targets_fault so_far [] (type ∷ types) = earlier so_far (Some kind.Shape)
 targets_fault so_far (aim ∷ aims) [] = targets_fault (earlier so_far (assigned_fault aim None)) aims []
 targets_fault so_far (aim ∷ aims) (type ∷ types) = targets_fault (earlier so_far (assigned_fault aim (Some type))) aims types
 
+-- the targets of a statement of this line, which all are aimed at
+abbrev pub all_targets : ℕ → List Aim → Result (List TypedTarget) CheckFault
+all_targets line aims = at_line line (all_ok aims) >>= λ found. Ok (map (λ aim. aim.0) found)
+
 unfoldable pub main_assign : ℕ → List Target → Right → Step Walk MainStmt
 main_assign line targets e walk = do
   r ← right_side e walk
   let aims = map (aim_of r.1.environment) targets
   after ← counted line (targets_fault r.0.fault aims r.0.types) r.1
-  found ← at_line line (all_ok aims)
-  Ok (stmt.Assign line (map (λ aim. aim.0) found) r.0.typed, after)
+  aimed ← all_targets line aims
+  Ok (stmt.Assign line aimed r.0.typed, after)
 
 -- ---- loops
 

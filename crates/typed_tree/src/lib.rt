@@ -11,6 +11,7 @@ mod literals;
 mod lookups;
 mod main_procedure;
 mod names;
+mod nodes;
 mod program;
 mod walk;
 
@@ -26,4 +27,5 @@ pub use literals::{decimals_of, literal_word, whole};
 pub use lookups::{field_type, find_field, over_set};
 pub use main_procedure::{MainStmt, RightSide, TypedRight, TypedTarget};
 pub use names::{Meaning, Names};
+pub use nodes::{Named, NodeEntry};
 pub use program::{ElementType, SetShape, TypedField, TypedProgram, TypedSet, Variable};
