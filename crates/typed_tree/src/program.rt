@@ -2,7 +2,7 @@
 
 use crate::function::TypedFunction;
 use crate::main_procedure::MainStmt;
-use sim_syntax::Program;
+use sim_syntax::Lowered;
 use sqlite_items::Items;
 use type_rules::{BlockShape, NodeType};
 use vocabulary::{L, Text};
@@ -51,7 +51,7 @@ pub struct Variable {
 #[derive(Drop)]
 pub struct TypedProgram {
     /// The tree that was typed.
-    pub tree: Program,
+    pub tree: Lowered,
     pub elements: L<ElementType>,
     pub sets: L<TypedSet>,
     pub functions: L<TypedFunction>,
