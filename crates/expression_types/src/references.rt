@@ -2,8 +2,7 @@
 
 ghost use Rattle.std.specs.Prelude.{◌≡◌, ◌++◌, Ok, Err, IfOk, if◌then◌else◌};
 ghost use Rattle.type_rules.specs.declared.types.TypeKind.TheVariants.{Shape};
-ghost use Rattle.std.specs.List.{list_any};
-ghost use Rattle.type_rules.specs.Rules.{is_empty, is_unknown};
+ghost use Rattle.type_rules.specs.Rules.{is_empty};
 ghost use Rattle.type_rules.specs.declared.types.NodeType.TheVariants as type;
 ghost use Rattle.type_rules.specs.declared.types.BlockShape.TheVariants as block;
 ghost use Rattle.typed_tree.specs.Expressions as spec;
@@ -15,7 +14,7 @@ use crate::ranges::ranges_of;
 use sim_syntax::Name;
 use sqlite_items::Items;
 use std::alloc::Global;
-use type_rules::{BlockShape, IndexRange, NodeType, TypeKind, part_rule, rank_rule};
+use type_rules::{BlockShape, IndexRange, NodeType, TypeKind, has_unknown, part_rule, rank_rule};
 use typed_tree::{
     CheckFault, Environment, Level, Meaning, Referent, TypedExpr, TypedForm, find_field, over_set,
 };
@@ -43,15 +42,6 @@ fn whole_rule(value_type: NodeType, is_whole: bool) -> Result<NodeType, TypeKind
     } else {
         Err(TypeKind::Shape)
     }
-}
-
-/// Whether one of the indices is neither a whole number nor a constant loop's variable.
-fn has_unknown(indices: &[IndexRange]) -> bool
-    ensures { result ≡ list_any is_unknown indices.now }
-{
-    indices
-        .iter()
-        .any(|index| matches!(index, IndexRange::NotConstant))
 }
 
 /// Why an element, endpoints and a result are no value.

@@ -1,0 +1,12 @@
+pub mod Conditions
+pub mod Declarations
+pub mod Expressions
+pub mod FunctionStatements
+pub mod Laws
+pub mod Lists
+pub mod MainStatements
+pub mod ProgramLaws
+pub mod Programs
+pub mod References
+pub mod ResultSides
+pub mod Scopes
