@@ -1,0 +1,7 @@
+use Rattle.std.proofs.Common.{◌≡◌, ◌++◌, map, drop}
+use Rattle.typed_tree.specs.Nodes as spec
+use Rattle.typed_measures.proofs.nodes.+function.Given as goal
+
+-- the statements so far and those that are left have all nodes
+abbrev pub invariant-function_statements-loop-statement : goal.invariant-function_statements-loop-statement
+invariant-function_statements-loop-statement l = l.initial.nodes ++ spec.joined (map spec.function_nodes l.statements) ≡ l.nodes ++ spec.joined (map spec.function_nodes (drop l.statement-index l.statements))
