@@ -1,0 +1,4 @@
+pub mod Folds
+pub mod Reserved
+pub mod Columns
+pub mod Judged

@@ -1,0 +1,5 @@
+pub mod Functions
+pub mod Parts
+pub mod Readings
+pub mod Reserved
+pub mod Parameters

@@ -1,0 +1,15 @@
+//! The types of programs: the typed program of a program's tree, or the first fault of it, and what is asked of it.
+#![tactic(auto)]
+
+mod elements;
+mod functions;
+mod parameters;
+mod program;
+mod readings;
+mod rules;
+mod sets;
+mod typed;
+
+pub use program::check;
+pub use readings::FieldShape;
+pub use typed::Typed;

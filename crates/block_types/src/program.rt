@@ -1,0 +1,154 @@
+//! Programs.
+
+ghost use Rattle.std.specs.Prelude.{◌≡◌};
+ghost use Rattle.vocabulary.specs.Answers.{Answers, fold_result};
+ghost use Rattle.typed_tree.specs.declared.fault.CheckFault.TheVariants.{Memory};
+ghost use Rattle.typed_tree.specs.Steps.{Leads, Walks};
+ghost use Rattle.typed_tree.specs.Declarations as spec;
+ghost use Rattle.typed_tree.specs.MainProcedure as main;
+ghost use Rattle.typed_tree.specs.Typed as whole;
+ghost use Rattle.typing_laws.specs.ProgramLaws.{ProgramLaws};
+ghost use Rattle.block_types.specs.Parts as parts;
+
+use crate::elements::element_declaration;
+use crate::functions::function_declaration;
+use crate::sets::set_declaration;
+use crate::typed::Typed;
+use main_types::main_statements;
+use sim_syntax::{Decl, Lowered, Program, Stmt};
+use sqlite_items::Items;
+use std::alloc::Global;
+use type_rules::TypeKind;
+use typed_tree::{
+    CheckFault, Declarations, Environment, Level, MainStmt, Names, TypedProgram, Walk,
+};
+use typing_laws::program_typing_law;
+use vocabulary::L;
+
+/// A declaration.
+#[tactic(auto, unfolding(typed_tree::specs::Declarations::declaration))]
+fn declaration<'a>(alloc: Global, declared: &'a Decl, walk: &mut Walk<'a>) -> Result<(), CheckFault>
+    ensures { Leads (spec.declaration walk.old declared.now) result walk.new }
+{
+    match declared {
+        Decl::Element { line, name, fields } => {
+            element_declaration(alloc, *line, name, fields.as_slice(), walk)
+        }
+        Decl::Set {
+            line,
+            name,
+            element,
+            ends,
+        } => set_declaration(alloc, *line, name, element, ends.as_slice(), walk),
+        Decl::Host { line, .. } => Err(CheckFault::IllTyped {
+            line: *line,
+            kind: TypeKind::Unknown,
+        }),
+        Decl::Func {
+            line,
+            name,
+            params,
+            results,
+            body,
+        } => function_declaration(
+            alloc,
+            *line,
+            name,
+            params.as_slice(),
+            results.as_slice(),
+            body.as_slice(),
+            walk,
+        ),
+    }
+}
+
+/// Declarations, one after the other.
+#[tactic(auto, using(crate::proofs::Folds::one_more, crate::proofs::Folds::one_refused, crate::proofs::Folds::none_left))]
+fn declarations<'a>(
+    alloc: Global,
+    declared: &'a [Decl],
+    walk: &mut Walk<'a>,
+) -> Result<(), CheckFault>
+    ensures { Leads (fold_result spec.declaration walk.old declared.now) result walk.new }
+{
+    for one in declared {
+        declaration(alloc, one, walk)?;
+    }
+    Ok(())
+}
+
+/// A walk that begins: nothing is known.
+fn beginning<'a>(alloc: Global) -> Walk<'a>
+    ensures { result ≡ whole.beginning }
+{
+    Walk {
+        environment: Environment {
+            level: Level::Function,
+            declarations: Declarations {
+                elements: L::empty(alloc),
+                sets: L::empty(alloc),
+                functions: L::empty(alloc),
+                variables: L::empty(alloc),
+            },
+            names: Names::new(alloc),
+        },
+        nodes: 0,
+        statements: 0,
+        locals: 0,
+    }
+}
+
+/// The main procedure of a walk over declarations.
+fn main_procedure<'a>(
+    alloc: Global,
+    body: &'a [Stmt],
+    walk: &mut Walk<'a>,
+) -> Result<Items<MainStmt>, CheckFault>
+    ensures { Walks (main.main_statements body.now (whole.at_main walk.old)) result walk.new }
+{
+    walk.environment.level = Level::Main;
+    main_statements(alloc, body, walk)
+}
+
+/// What a program declares, and its main procedure.
+#[derive(Drop)]
+struct Parts {
+    declarations: Declarations,
+    body: Items<MainStmt>,
+}
+
+/// The parts of a program's tree, or its first fault.
+#[tactic(auto, unfolding(typed_tree::specs::Typed::typed, typed_tree::specs::Typed::program_of))]
+fn parts_of(alloc: Global, tree: &Program) -> Result<Parts, CheckFault>
+    ensures { parts.ArePartsOf tree.now result }
+{
+    let mut walk = beginning(alloc);
+    declarations(alloc, tree.decls.as_slice(), &mut walk)?;
+    let body = main_procedure(alloc, tree.body.as_slice(), &mut walk)?;
+    Ok(Parts {
+        declarations: walk.environment.declarations,
+        body,
+    })
+}
+
+/// The typed program of a program: each name resolved and each expression with its type, or the first fault in the order
+/// of the text, a node after its parts. Of the kinds that apply at one node the first in their order is named.
+pub fn check(alloc: Global, program: Lowered) -> Result<Typed, CheckFault>
+    ensures answered { Answers Memory (whole.typed program) result }
+    ensures judged { ProgramLaws }
+{
+    program_typing_law();
+    let parts = parts_of(alloc, program.program())?;
+    let declarations = parts.declarations;
+    Typed::of(
+        alloc,
+        TypedProgram {
+            tree: program,
+            elements: declarations.elements,
+            sets: declarations.sets,
+            functions: declarations.functions,
+            variables: declarations.variables,
+            body: parts.body,
+        },
+    )
+}
