@@ -79,6 +79,9 @@ refused "points.x = 2*$(repeated 65 '(' | tr -d '\n')1$(repeated 65 ')' | tr -d 
 refused "$(repeated 9000 '  points.x = points.x;' | sed '1s/^  //')" 'line 8195, byte 188422: too many tokens'
 refused 'points.x = points.x + ;' 'line 6, token 28: syntax'
 refused 'points.x = 2*points.x' 'line 7, token 29: syntax'
+refused 'points.y = points.x;' 'line 6: unknown name'
+refused 'points.x = points.x + 1;' 'line 6: shape'
+refused 'points.x = 1.5*points.x;' 'line 6: scale'
 refused 'points.x = points.x*2;' 'not yet'
 
 # refused_table NOTE LINES..: a table of springs with these lines is refused

@@ -15,6 +15,8 @@ use Rattle.set_tables.specs.declared.faults.TableFault.{TableFault}
 use Rattle.set_tables.specs.declared.faults.TableFault.TheVariants as table
 use Rattle.sim_lexer.specs.declared.token.LexFault.{LexFault}
 use Rattle.sim_lexer.specs.declared.token.LexFault.TheVariants as fault
+use Rattle.type_rules.specs.declared.types.TypeKind.{TypeKind}
+use Rattle.type_rules.specs.declared.types.TypeKind.TheVariants as kind
 use Rattle.simit_run.specs.declared.role.FileRole.{FileRole}
 use Rattle.simit_run.specs.declared.role.FileRole.TheVariants as role
 use Rattle.simit_run.specs.declared.status.Status.{Status}
@@ -41,6 +43,7 @@ refusal_status refusal.Words = status.Refused
 refusal_status (refusal.FileLimit role) = status.Limit
 refusal_status (refusal.Lexical line fault) = status.Refused
 refusal_status (refusal.Syntax line token) = status.Refused
+refusal_status (refusal.IllTyped line kind) = status.Refused
 refusal_status refusal.NotYet = status.Refused
 refusal_status (refusal.FileCount files sets) = status.Refused
 refusal_status (refusal.Table number fault) = status.Refused
@@ -76,6 +79,21 @@ lexical_words fault.Memory = codes ": no memory\n"
 abbrev pub place_note : ℕ → List ℕ → ℕ → List ℕ → List ℕ
 place_note line unit place words = concat (codes "refused: line " ∷ decimal line ∷ unit ∷ decimal place ∷ words ∷ [])
 
+-- why a node has no type
+abbrev pub kind_words : TypeKind → List ℕ
+kind_words kind.Unknown = codes ": unknown name\n"
+kind_words kind.Twice = codes ": declared twice\n"
+kind_words kind.NotConstant = codes ": not a constant\n"
+kind_words kind.NotAPlace = codes ": not a place\n"
+kind_words kind.Shape = codes ": shape\n"
+kind_words kind.Set = codes ": set\n"
+kind_words kind.Scale = codes ": scale\n"
+kind_words kind.TooLarge = codes ": too large\n"
+
+-- the note line of a line of a program's text
+abbrev pub line_note : ℕ → List ℕ → List ℕ
+line_note line words = concat (codes "refused: line " ∷ decimal line ∷ words ∷ [])
+
 -- what is wrong with a cell of a table
 abbrev pub cell_words : CellFault → List (List ℕ)
 cell_words cell.Empty = codes ": empty cell\n" ∷ []
@@ -110,6 +128,7 @@ refusal_note names (refusal.FileLimit role) =
     concat (codes "limit: " ∷ names role ∷ codes " is over " ∷ decimal (limit_of role) ∷ codes " bytes\n" ∷ [])
 refusal_note names (refusal.Lexical line fault) = place_note line (codes ", byte ") (offset_of fault) (lexical_words fault)
 refusal_note names (refusal.Syntax line token) = place_note line (codes ", token ") token (codes ": syntax\n")
+refusal_note names (refusal.IllTyped line kind) = line_note line (kind_words kind)
 refusal_note names refusal.NotYet = not_yet_note
 refusal_note names (refusal.FileCount files sets) =
     concat (codes "refused: " ∷ decimal files ∷ codes " files for " ∷ decimal sets ∷ codes " sets\n" ∷ [])

@@ -1,5 +1,5 @@
 -- Which program a text states.
-use Rattle.std.specs.Prelude.{ℕ, List, drop, Result}
+use Rattle.std.specs.Prelude.{ℕ, List, drop, Result, Ok, Err, if◌then◌else◌}
 use Rattle.std.specs.Option.{ok_or}
 use Rattle.std.specs.Result.{result_map_both}
 use Rattle.vocabulary.specs.Answers.{◌>>=◌}
@@ -9,10 +9,15 @@ use Rattle.sim_lexer.specs.declared.token.LexFault.{LexFault}
 use Rattle.sim_lexer.specs.declared.token.LexFault.TheVariants as fault
 use Rattle.sim_grammar.specs.ReadProgram.{program_in}
 use Rattle.sim_grammar.specs.Rule.{line_of}
+use Rattle.sim_syntax.specs.Indices.{has_index_expression}
+use Rattle.sim_syntax.specs.declared.program.Program as tree
+use Rattle.typed_tree.specs.Typed.{typed}
+use Rattle.typed_tree.specs.declared.fault.CheckFault.{CheckFault}
+use Rattle.typed_tree.specs.declared.fault.CheckFault.TheVariants as check
 use Rattle.program_forms.specs.Resolved.{resolved}
 use Rattle.global_algebra.specs.declared.program.Program.{Program}
 use Rattle.simit_run.specs.declared.failure.Refusal.{Refusal}
-use Rattle.simit_run.specs.declared.failure.Refusal.TheVariants.{Lexical, Syntax, NotYet}
+use Rattle.simit_run.specs.declared.failure.Refusal.TheVariants.{Lexical, Syntax, IllTyped, NotYet}
 
 -- the offset that a lexical fault names
 abbrev pub offset_of : LexFault → ℕ
@@ -30,10 +35,24 @@ lexical source result = result_map_both (λ x. x) (λ fault. Lexical (line_at so
 abbrev pub syntactic : {A : Type 0} → List Word → Result A ℕ → Result A Refusal
 syntactic words result = result_map_both (λ x. x) (λ place. Syntax (line_of (drop place words)) place) result
 
--- the program that a text states, or the first reason why it states none: a lexical fault; words that derive no tree; a tree of
--- a form that doesn't run yet
+-- a tree in which no index expression stands; those don't run yet
+abbrev pub lowered : tree.Program → Result tree.Program Refusal
+lowered tree = if has_index_expression tree then Err NotYet else Ok tree
+
+-- why a tree isn't typed, as a refusal
+abbrev pub ill_typed : CheckFault → Refusal
+ill_typed (check.IllTyped line kind) = IllTyped line kind
+ill_typed check.Memory = NotYet
+
+abbrev pub typing : {A : Type 0} → Result A CheckFault → Result A Refusal
+typing result = result_map_both (λ x. x) ill_typed result
+
+-- the program that a text states, or the first reason why it states none: a lexical fault; words that derive no tree; an index
+-- expression; a node without a type; a form that doesn't run yet
 unfoldable pub program_of : List ℕ → Result Program Refusal
 program_of source = do
   ts ← lexical source (tokens source)
   tree ← syntactic (words_of source ts) (program_in (words_of source ts))
-  ok_or (resolved tree) NotYet
+  plain ← lowered tree
+  checked ← typing (typed plain)
+  ok_or (resolved checked.tree) NotYet

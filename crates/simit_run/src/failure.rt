@@ -3,6 +3,7 @@
 use crate::role::FileRole;
 use set_tables::TableFault;
 use sim_lexer::LexFault;
+use type_rules::TypeKind;
 
 /// What is wrong with the words or with a file that was read, in the order in which it is judged.
 #[derive(Clone, Copy, Debug, PartialEq, Eq)]
@@ -15,6 +16,8 @@ pub enum Refusal {
     Lexical { line: u32, fault: LexFault },
     /// The program's tokens derive no tree: the index of the first that can't go on, and its line.
     Syntax { line: u32, token: u32 },
+    /// A node of this line has no type.
+    IllTyped { line: u32, kind: TypeKind },
     /// The program is of a form that doesn't run yet.
     NotYet,
     /// There are so many tables for another number of sets.

@@ -1,5 +1,5 @@
-//! From the program's file to the program: its tokens, the tree that they derive, and the program that the tree
-//! states.
+//! From the program's file to the program: its tokens, the tree that they derive, its types, and the program that the
+//! tree states.
 
 ghost use Rattle.std.specs.Prelude.{◌≡◌, ◌≤◌, All, IfOk, drop, length};
 ghost use Rattle.std.specs.Option.{ok_or};
@@ -9,6 +9,7 @@ ghost use Rattle.sim_lexer.specs.Tokens.{EndsOnce, IsSpelled, LiesIn, tokens};
 ghost use Rattle.sim_lexer.specs.Words.{words_of};
 ghost use Rattle.sim_grammar.specs.ReadProgram.{program_in};
 ghost use Rattle.sim_grammar.specs.Rule.{line_of};
+ghost use Rattle.typed_tree.specs.Typed.{typed};
 ghost use Rattle.program_forms.specs.Resolved.{resolved};
 ghost use Rattle.simit_run.specs.Answer as spec;
 ghost use Rattle.simit_run.specs.ProgramText as text;
@@ -20,12 +21,15 @@ use crate::failure::{Failure, Refusal};
 use crate::file::read_file;
 use crate::note::offset_of;
 use crate::role::FileRole;
+use block_types::{Typed, check};
 use global_algebra::Program;
 use program_forms::{ResolveFault, resolve};
 use sim_lexer::{LexFault, Token, Tokens, lex, line_at};
 use sim_parser::{ParseFault, parse};
+use sim_syntax::Lowered;
 use simit_io::Inputs;
 use std::alloc::Global;
+use typed_tree::CheckFault;
 use vocabulary::limits::{MOST_PROGRAM_BYTES, MOST_TOKENS};
 
 /// The line of the token of an index.
@@ -75,6 +79,29 @@ fn tree_of(alloc: Global, source: &[u8], tokens: &Tokens) -> Result<sim_syntax::
     }
 }
 
+/// The tree, if no index expression stands in it.
+fn lowered_of(tree: sim_syntax::Program) -> Result<Lowered, Failure>
+    ensures { result ≡ refused (text.lowered tree) }
+{
+    match Lowered::of(tree) {
+        Ok(lowered) => Ok(lowered),
+        Err(_) => Err(Failure::Refused(Refusal::NotYet)),
+    }
+}
+
+/// The tree with its types.
+fn typed_of(alloc: Global, lowered: Lowered) -> Result<Typed, Failure>
+    ensures { Answers Failure.Memory (refused (text.typing (typed lowered))) result }
+{
+    match check(alloc, lowered) {
+        Ok(typed) => Ok(typed),
+        Err(CheckFault::Memory) => Err(Failure::Memory),
+        Err(CheckFault::IllTyped { line, kind }) => {
+            Err(Failure::Refused(Refusal::IllTyped { line, kind }))
+        }
+    }
+}
+
 /// The program that a tree states.
 #[tactic(auto, using(crate::proofs::Runnable::is_runnable))]
 fn resolved_of(alloc: Global, tree: &sim_syntax::Program) -> Result<Program, Failure>
@@ -97,7 +124,9 @@ fn program_of(alloc: Global, source: &[u8]) -> Result<Program, Failure>
 {
     let tokens = tokens_of(alloc, source)?;
     let tree = tree_of(alloc, source, &tokens)?;
-    let program = resolved_of(alloc, &tree)?;
+    let lowered = lowered_of(tree)?;
+    let typed = typed_of(alloc, lowered)?;
+    let program = resolved_of(alloc, typed.program())?;
     Ok(program)
 }
 

@@ -4,7 +4,7 @@ ghost use Rattle.std.specs.Prelude.{◌≡◌, ◌≤◌, [], ◌∷◌, map, co
 ghost use Rattle.std.specs.List.{concat};
 ghost use Rattle.simit_io.specs.Inputs.{Rose};
 ghost use Rattle.simit_run.specs.Command.{file_name};
-ghost use Rattle.simit_run.specs.Ending.{PutsNote, cell_note, cell_words, file_note, lexical_words, memory_note, note_of, place_note, refusal_note, row_note, table_note, usage_note, write_fault_note};
+ghost use Rattle.simit_run.specs.Ending.{PutsNote, cell_note, cell_words, file_note, kind_words, lexical_words, line_note, memory_note, note_of, place_note, refusal_note, row_note, table_note, usage_note, write_fault_note};
 ghost use Rattle.vocabulary.specs.declared.limits.TheConstants.{MOST_ELEMENTS};
 ghost use Rattle.simit_run.specs.ProgramText.{offset_of};
 ghost use Rattle.simit_run.specs.Shown.{shown};
@@ -19,6 +19,7 @@ use ring_words::CellFault;
 use set_tables::TableFault;
 use sim_lexer::LexFault;
 use simit_io::{Sink, put_all, putting_law};
+use type_rules::TypeKind;
 use vocabulary::limits::MOST_ELEMENTS;
 
 /// Puts pieces one after another, up to the first that the sink doesn't take whole.
@@ -126,6 +127,31 @@ fn lexical_words(fault: LexFault) -> &'static str
         LexFault::TooDeep { .. } => ": too deep\n",
         LexFault::Memory => ": no memory\n",
     }
+}
+
+/// Why a node has no type.
+fn kind_words(kind: TypeKind) -> &'static str
+    ensures { result.now ≡ kind_words kind }
+{
+    match kind {
+        TypeKind::Unknown => ": unknown name\n",
+        TypeKind::Twice => ": declared twice\n",
+        TypeKind::NotConstant => ": not a constant\n",
+        TypeKind::NotAPlace => ": not a place\n",
+        TypeKind::Shape => ": shape\n",
+        TypeKind::Set => ": set\n",
+        TypeKind::Scale => ": scale\n",
+        TypeKind::TooLarge => ": too large\n",
+    }
+}
+
+/// Puts the line of a line of a program's text.
+fn put_line<'a, N: Sink>(notes: &mut N, line: u32, words: &'a str)
+    ensures note { PutsNote (N.written notes.old) (N.written notes.new) (Rose (N.faults notes.old) (N.faults notes.new)) (line_note line words.now) }
+    ensures counted { N.faults notes.old ≤ N.faults notes.new }
+{
+    let mut of_line = Buffer::new();
+    put_three(notes, "refused: line ", of_line.format(line), words);
 }
 
 /// Puts the line of words that are no command.
@@ -262,6 +288,7 @@ fn put_refusal<N: Sink>(notes: &mut N, command: Command<'_>, refusal: Refusal)
         Refusal::Syntax { line, token } => {
             put_place(notes, line, ", token ", token, ": syntax\n");
         }
+        Refusal::IllTyped { line, kind } => put_line(notes, line, kind_words(kind)),
         Refusal::NotYet => put_pieces(notes, &["refused: not yet\n"]),
         Refusal::FileCount { files, sets } => put_file_count(notes, files, sets),
         Refusal::Table { set, fault } => {

@@ -22,6 +22,7 @@ fn refusal_status(refusal: Refusal) -> Status
         Refusal::Words
         | Refusal::Lexical { .. }
         | Refusal::Syntax { .. }
+        | Refusal::IllTyped { .. }
         | Refusal::NotYet
         | Refusal::FileCount { .. }
         | Refusal::Table { .. } => Status::Refused,

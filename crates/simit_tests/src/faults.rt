@@ -135,7 +135,7 @@ fn nothing_is_read_after_a_refusal_and_each_put_of_its_note_fails(
     let (program, points) = (program.as_bytes(), POINTS.as_bytes());
     let no_words = refused("usage: simit run PROGRAM SETS..\n");
     let no_file = ended(Status::ReadFault, "read fault: none\n");
-    let no_program = refused("refused: not yet\n");
+    let no_program = refused("refused: line 1: unknown name\n");
     let no_tree = refused("refused: line 5, token 25: syntax\n");
     let no_tables = refused("refused: 1 files for 2 sets\n");
     let no_set = refused("refused: points.csv row 1: width\n");

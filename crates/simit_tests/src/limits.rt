@@ -31,7 +31,7 @@ fn at_most_1048576_bytes_of_a_program(rt: HostRuntime) -> Result<(), Fail> {
 fn at_most_65536_tokens(rt: HostRuntime) -> Result<(), Fail> {
     let too_many = refused("refused: line 1, byte 65550: too many tokens\n");
     for (after, end) in [
-        ("end", refused("refused: not yet\n")),
+        ("end", refused("refused: line 1: unknown name\n")),
         ("end  end", too_many),
         (
             "end  end?",

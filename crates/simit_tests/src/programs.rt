@@ -90,7 +90,7 @@ fn one_program_in_many_layouts(rt: HostRuntime) -> Result<(), Fail> {
 
 /// Programs that are refused, with their notes: bytes that begin no token, a name that is too long, brackets that are too
 /// deep; tokens without a tree; and trees of forms that don't run yet.
-static REFUSED: [(&[u8], &str); 9] = [
+static REFUSED: [(&[u8], &str); 17] = [
     (
         b"element P x: int(0); end extern s: set{P}; proc main s.x = s.x? end",
         "refused: line 1, byte 62: bad byte\n",
@@ -117,8 +117,40 @@ static REFUSED: [(&[u8], &str); 9] = [
     ),
     (b"\n\nproc main\n", "refused: line 4, token 2: syntax\n"),
     (
-        b"element P x: int(0); end extern s: set{P}; proc main s.x = 5; end",
+        b"element P x: int(0); end extern s: set{P}; proc main s.x = ix(i) s.z(i); end",
         "refused: not yet\n",
+    ),
+    (
+        b"element P x: int(0); end extern s: set{P}; proc main\ns.z = s.x; end",
+        "refused: line 2: unknown name\n",
+    ),
+    (
+        b"element P x: int(0);\n\nx: int(0); end extern s: set{P}; proc main end",
+        "refused: line 3: declared twice\n",
+    ),
+    (
+        b"element P x: int(0.0); end extern s: set{P}; proc main end",
+        "refused: line 1: not a constant\n",
+    ),
+    (
+        b"element P x: int(0); end extern s: set{P}; proc main\nfor i in 0:2\ni = 1; end end",
+        "refused: line 3: not a place\n",
+    ),
+    (
+        b"element P x: int(0); end extern s: set{P}; proc main s.x = 5; end",
+        "refused: line 1: shape\n",
+    ),
+    (
+        b"element P x: int(0); end extern s: set{P}; extern t: set{P}; proc main s.x = t.x; end",
+        "refused: line 1: set\n",
+    ),
+    (
+        b"element P x: int(0); end extern s: set{P}; proc main s.x = 1.5*s.x; end",
+        "refused: line 1: scale\n",
+    ),
+    (
+        b"element P\nx: vector[7](int(0)); end extern s: set{P}; proc main end",
+        "refused: line 2: too large\n",
     ),
     (
         b"element P x: int(0); end extern s: set{P}; proc main s.x = 2*(s.x + s.x); end",
