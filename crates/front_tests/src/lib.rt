@@ -1,4 +1,4 @@
-//! The tests of the calls that take a program's text to its tree and types: what no public clause says.
+//! The tests of the calls that take a program's text to its tree, and of which trees run: what no public clause says.
 //!
 //! Each module is about one subject.
 #![tactic(auto)]
@@ -15,5 +15,3 @@ mod places;
 mod printing;
 #[cfg(test)]
 mod read_texts;
-#[cfg(test)]
-mod typing;
