@@ -1,5 +1,5 @@
 -- The columns of fields.
-use Rattle.std.proofs.Common.{ℕ, ◌+◌, ◌≤◌, List, take, drop, arith}
+use Rattle.std.proofs.Common.{ℕ, ◌≤◌, List, take, arith}
 use Rattle.std.proofs.lemmas.List.Sums.{sum_by-take-drop}
 use Rattle.typed_tree.specs.declared.program.TypedField.{TypedField}
 use Rattle.typed_tree.specs.Cost.{entries_in}

@@ -1,5 +1,5 @@
 -- The declaration of a function, after its statements.
-use Rattle.std.specs.Prelude.{ℕ, Bool, List, ◌++◌, length, Option, Some, None, Result, Ok, Err}
+use Rattle.std.specs.Prelude.{ℕ, Bool, List, ◌++◌, length, Option, Some, None, Result, Ok}
 use Rattle.vocabulary.specs.Answers.{◌>>=◌}
 use Rattle.type_rules.specs.declared.types.NodeType.{NodeType}
 use Rattle.typed_tree.specs.declared.fault.CheckFault.{CheckFault}

@@ -1,5 +1,5 @@
 -- The kinds of parameters, by whether their names are taken.
-use Rattle.std.specs.Prelude.{ℕ, Bool, List, [], ◌∷◌, Option, Result, Ok}
+use Rattle.std.specs.Prelude.{ℕ, Bool, [], ◌∷◌, Option, Result, Ok}
 use Rattle.std.specs.Option.{is_none}
 use Rattle.vocabulary.specs.Answers.{◌>>=◌}
 use Rattle.vocabulary.specs.declared.limits.TheConstants.{MOST_SCALE}

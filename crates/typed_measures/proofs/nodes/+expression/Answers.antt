@@ -1,4 +1,4 @@
-use Rattle.std.proofs.Common.{◌++◌, false, map, refl, subst, arith}
+use Rattle.std.proofs.Common.{false, map, refl, subst, arith}
 use Rattle.typed_tree.specs.declared.expression.TypedRow.{out-TypedRow}
 use Rattle.typed_tree.specs.Nodes as spec
 use Rattle.typed_measures.specs.Longer.{Longer}
