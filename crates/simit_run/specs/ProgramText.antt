@@ -12,6 +12,7 @@ use Rattle.sim_grammar.specs.Rule.{line_of}
 use Rattle.sim_syntax.specs.Indices.{has_index_expression}
 use Rattle.sim_syntax.specs.declared.program.Program as tree
 use Rattle.typed_tree.specs.Typed.{typed}
+use Rattle.typed_tree.specs.declared.program.TypedProgram.{TypedProgram}
 use Rattle.typed_tree.specs.declared.fault.CheckFault.{CheckFault}
 use Rattle.typed_tree.specs.declared.fault.CheckFault.TheVariants as check
 use Rattle.program_forms.specs.Resolved.{resolved}
@@ -47,12 +48,21 @@ ill_typed check.Memory = NotYet
 abbrev pub typing : {A : Type 0} → Result A CheckFault → Result A Refusal
 typing result = result_map_both (λ x. x) ill_typed result
 
--- the program that a text states, or the first reason why it states none: a lexical fault; words that derive no tree; an index
--- expression; a node without a type; a form that doesn't run yet
+-- the tree of a text, or the first reason why it has none: a lexical fault, or words that derive no tree
+unfoldable pub tree_of : List ℕ → Result tree.Program Refusal
+tree_of source = do
+  ts ← lexical source (tokens source)
+  syntactic (words_of source ts) (program_in (words_of source ts))
+
+-- the typed program of a text, or the first reason why it has none: it has no tree, an index expression, or a node without a type
+unfoldable pub typed_of : List ℕ → Result TypedProgram Refusal
+typed_of source = do
+  tree ← tree_of source
+  plain ← lowered tree
+  typing (typed plain)
+
+-- the program that a text states, or the first reason why it states none: it has no types, or is of a form that doesn't run yet
 unfoldable pub program_of : List ℕ → Result Program Refusal
 program_of source = do
-  ts ← lexical source (tokens source)
-  tree ← syntactic (words_of source ts) (program_in (words_of source ts))
-  plain ← lowered tree
-  checked ← typing (typed plain)
+  checked ← typed_of source
   ok_or (resolved checked.tree) NotYet

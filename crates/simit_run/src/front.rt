@@ -102,13 +102,36 @@ fn typed_of(alloc: Global, lowered: Lowered) -> Result<Typed, Failure>
     }
 }
 
-/// The program that a tree states.
+/// The tree of a text.
+#[tactic(auto, unfolding(crate::specs::ProgramText::tree_of))]
+fn tree_in(alloc: Global, source: &[u8]) -> Result<sim_syntax::Program, Failure>
+    requires { length source.now ≤ MOST_PROGRAM_BYTES }
+    ensures { Answers Failure.Memory (refused (text.tree_of source.now)) result }
+{
+    let tokens = tokens_of(alloc, source)?;
+    let tree = tree_of(alloc, source, &tokens)?;
+    Ok(tree)
+}
+
+/// The typed program of a text.
+#[tactic(auto, unfolding(crate::specs::ProgramText::typed_of))]
+fn typed_in(alloc: Global, source: &[u8]) -> Result<Typed, Failure>
+    requires { length source.now ≤ MOST_PROGRAM_BYTES }
+    ensures { Answers Failure.Memory (refused (text.typed_of source.now)) result }
+{
+    let tree = tree_in(alloc, source)?;
+    let lowered = lowered_of(tree)?;
+    let typed = typed_of(alloc, lowered)?;
+    Ok(typed)
+}
+
+/// The program that a typed program's tree states.
 #[tactic(auto, using(crate::proofs::Runnable::is_runnable))]
-fn resolved_of(alloc: Global, tree: &sim_syntax::Program) -> Result<Program, Failure>
-    ensures value { Answers Failure.Memory (refused (ok_or (resolved tree.now) Refusal.NotYet)) result }
+fn resolved_of(alloc: Global, typed: &Typed) -> Result<Program, Failure>
+    ensures value { Answers Failure.Memory (refused (ok_or (resolved typed.now.tree) Refusal.NotYet)) result }
     ensures runnable { IfOk result IsRunnable }
 {
-    match resolve(alloc, tree) {
+    match resolve(alloc, typed.program()) {
         Ok(program) => Ok(program),
         Err(ResolveFault::Memory) => Err(Failure::Memory),
         Err(ResolveFault::OtherForm) => Err(Failure::Refused(Refusal::NotYet)),
@@ -122,11 +145,8 @@ fn program_of(alloc: Global, source: &[u8]) -> Result<Program, Failure>
     ensures states { Answers Failure.Memory (refused (text.program_of source.now)) result }
     ensures runnable { IfOk result IsRunnable }
 {
-    let tokens = tokens_of(alloc, source)?;
-    let tree = tree_of(alloc, source, &tokens)?;
-    let lowered = lowered_of(tree)?;
-    let typed = typed_of(alloc, lowered)?;
-    let program = resolved_of(alloc, typed.program())?;
+    let typed = typed_in(alloc, source)?;
+    let program = resolved_of(alloc, &typed)?;
     Ok(program)
 }
 
