@@ -16,8 +16,6 @@ mod refused_in_main;
 #[cfg(test)]
 mod type_limits;
 #[cfg(test)]
-mod typed_calls;
-#[cfg(test)]
 mod typed_programs;
 #[cfg(test)]
 mod typing;

@@ -3,10 +3,12 @@
 ghost use Rattle.std.specs.Prelude.{◌≡◌, length};
 ghost use Rattle.block_types.specs.Readings.{set_fields};
 
-use crate::checked_texts::checked;
 use BlockShape::{Matrix, Number, Vector};
 use NodeType::{Local, SystemMatrix, SystemVector};
-use block_types::{FieldShape, Typed};
+use block_types::{FieldShape, Typed, check};
+use sim_lexer::lex;
+use sim_parser::parse;
+use sim_syntax::Lowered;
 use std::process::Abort;
 use std::test::Fail;
 use type_rules::{BlockShape, NodeType};
@@ -16,7 +18,13 @@ use worked_texts::{DOUBLED, GRADIENTS, PULLING, RATIO, STIFFNESS, SUMMED};
 
 /// The typed program of a text that has one.
 fn typed(rt: &(impl Abort + AllocGlobal), text: &str) -> Result<Typed, Fail> {
-    match checked(rt, text.as_bytes())? {
+    assert!(rt; text.len() <= 1 << 20);
+    let tokens = lex(rt.alloc(), text.as_bytes())?;
+    let program = parse(rt.alloc(), text.as_bytes(), &tokens)?;
+    let Ok(lowered) = Lowered::of(program) else {
+        return Err(Fail::new("an index expression"));
+    };
+    match check(rt.alloc(), lowered) {
         Ok(typed) => Ok(typed),
         Err(_) => Err(Fail::new("a program that is refused")),
     }
