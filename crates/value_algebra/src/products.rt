@@ -1,0 +1,128 @@
+//! Products, transposes and scalar products.
+
+ghost use Rattle.std.specs.Prelude.{◌≡◌, ◌*◌, ◌++◌, IfOk, OnOk, fold, pos};
+ghost use Rattle.std.specs.List.{flat_map, range_with_len, sum_by, zip};
+ghost use Rattle.ring_words.specs.Word.{add, mul, word};
+ghost use Rattle.value_algebra.specs.Value as spec;
+
+use crate::value::Value;
+use ring_words::{add, mul};
+use std::alloc::{AllocError, Global};
+use vocabulary::{L, NoMemory};
+
+/// The products of a row of one and a column of another, added one after the other.
+fn row_products(left: &Value, right: &Value, row: usize, column: usize) -> u64
+    ensures { result ≡ fold (λ sum middle. add sum (mul (spec.word_at left.now row middle) (spec.word_at right.now middle column))) 0 (range_with_len 0 left.now.columns) }
+{
+    (0..left.columns).fold(0, |sum, middle| {
+        let product = mul(left.word_at(row, middle), right.word_at(middle, column));
+        add(sum, product)
+    })
+}
+
+/// The sum of the products of a row of one and a column of another.
+fn row_times_column(left: &Value, right: &Value, row: usize, column: usize) -> u64
+    ensures { result ≡ word (pos (spec.row_times_column left.now right.now row column)) }
+{
+    row_products(left, right, row, column)
+}
+
+/// Appends a row of a product.
+#[tactic(auto, using(crate::proofs::Rows::row_begun, crate::proofs::Rows::row_grown))]
+fn push_row(left: &Value, right: &Value, row: usize, words: &mut Vec<u64>) -> Result<(), AllocError>
+    ensures { OnOk result (words.new.items ≡ words.old.items ++ spec.product_row left.now right.now row) }
+{
+    for column in 0..right.columns {
+        words.push(row_times_column(left, right, row, column))?;
+    }
+    Ok(())
+}
+
+/// The words of a product.
+#[tactic(auto, using(crate::proofs::Rows::rows_grown))]
+fn product_words(alloc: Global, left: &Value, right: &Value) -> Result<Vec<u64>, AllocError>
+    ensures { IfOk result (λ words. words.items ≡ flat_map (spec.product_row left.now right.now) (range_with_len 0 left.now.rows)) }
+{
+    let mut words = Vec::new(alloc);
+    for row in 0..left.rows {
+        push_row(left, right, row, &mut words)?;
+    }
+    Ok(words)
+}
+
+/// Appends a column.
+#[tactic(auto, using(crate::proofs::Rows::row_begun, crate::proofs::Rows::row_grown))]
+fn push_column(value: &Value, column: usize, words: &mut Vec<u64>) -> Result<(), AllocError>
+    ensures { OnOk result (words.new.items ≡ words.old.items ++ spec.column_of value.now column) }
+{
+    for row in 0..value.rows {
+        words.push(value.word_at(row, column))?;
+    }
+    Ok(())
+}
+
+/// The words, column by column.
+#[tactic(auto, using(crate::proofs::Rows::rows_grown))]
+fn transposed_words(alloc: Global, value: &Value) -> Result<Vec<u64>, AllocError>
+    ensures { IfOk result (λ words. words.items ≡ flat_map (spec.column_of value.now) (range_with_len 0 value.now.columns)) }
+{
+    let mut words = Vec::new(alloc);
+    for column in 0..value.columns {
+        push_column(value, column, &mut words)?;
+    }
+    Ok(words)
+}
+
+/// The product of two matrices, or of a matrix and a vector, which is a column.
+#[tactic(auto, unfolding(crate::specs::Value::product))]
+pub fn product(alloc: Global, left: &Value, right: &Value) -> Result<Value, NoMemory>
+    ensures { IfOk result (λ product. product ≡ spec.product left.now right.now) }
+{
+    match product_words(alloc, left, right) {
+        Ok(words) => Ok(Value {
+            rows: left.rows,
+            columns: right.columns,
+            words: L::of(words),
+        }),
+        Err(_) => Err(NoMemory),
+    }
+}
+
+/// The value with rows and columns exchanged.
+#[tactic(auto, unfolding(crate::specs::Value::transposed))]
+pub fn transposed(alloc: Global, value: &Value) -> Result<Value, NoMemory>
+    ensures { IfOk result (λ transposed. transposed ≡ spec.transposed value.now) }
+{
+    match transposed_words(alloc, value) {
+        Ok(words) => Ok(Value {
+            rows: value.columns,
+            columns: value.rows,
+            words: L::of(words),
+        }),
+        Err(_) => Err(NoMemory),
+    }
+}
+
+/// The products of the words at one index of two lists, added one after the other.
+fn pair_products(left: &[u64], right: &[u64]) -> u64
+    ensures { result ≡ fold (λ sum pair. add sum (mul pair.0 pair.1)) 0 (zip left.now right.now) }
+{
+    let pairs = left.iter().zip(right);
+    pairs.fold(0, |sum, (a, b)| add(sum, mul(*a, *b)))
+}
+
+/// The sum of the products of the words at one index of two lists.
+fn sum_of_products(left: &[u64], right: &[u64]) -> u64
+    ensures { result ≡ word (pos (sum_by (λ pair. pair.0 * pair.1) (zip left.now right.now))) }
+{
+    pair_products(left, right)
+}
+
+/// The sum of the products of the words of two values of one size.
+#[tactic(auto, unfolding(crate::specs::Value::dot))]
+pub fn dot(alloc: Global, left: &Value, right: &Value) -> Result<Value, NoMemory>
+    ensures { IfOk result (λ dot. dot ≡ spec.dot left.now right.now) }
+{
+    let sum = sum_of_products(left.words.items(), right.words.items());
+    Value::number(alloc, sum)
+}
