@@ -3,6 +3,7 @@ use block_types::{Typed, check};
 use sim_lexer::lex;
 use sim_parser::parse;
 use sim_syntax::Lowered;
+use std::alloc::{AllocError, Global};
 use std::process::Abort;
 use std::test::Fail;
 use type_rules::TypeKind;
@@ -54,18 +55,40 @@ fn compare(
     Ok(())
 }
 
+/// A text with a part between others.
+fn text_with(
+    alloc: Global,
+    before: [&str; 2],
+    part: &str,
+    after: &str,
+) -> Result<String, AllocError> {
+    let [a, b] = before;
+    format!(in alloc; "{a}{b}{part}{after}")
+}
+
+/// Adds a line to what is wrong, where the text with the part of a row isn't refused as the row says.
+fn compare_row(
+    rt: &(impl Abort + AllocGlobal),
+    before: [&str; 2],
+    row: &(&str, u32, TypeKind),
+    after: &str,
+    wrong: &mut String,
+) -> Result<(), Fail> {
+    let (part, line, kind) = *row;
+    let text = text_with(rt.alloc(), before, part, after)?;
+    compare(rt, text.as_str(), part, Some((line, kind)), wrong)
+}
+
 /// Asserts that texts are refused, of which each has the part of a row between the same texts.
 pub fn assert_refused(
     rt: &(impl Abort + AllocGlobal),
     before: [&str; 2],
-    rows: &[Row],
+    rows: &[(&str, u32, TypeKind)],
     after: &str,
 ) -> Result<(), Fail> {
-    let [a, b] = before;
     let mut wrong = String::new(rt.alloc());
-    for (part, line, kind) in rows {
-        let text = format!(in rt.alloc(); "{a}{b}{part}{after}")?;
-        compare(rt, text.as_str(), part, Some((*line, *kind)), &mut wrong)?;
+    for row in rows {
+        compare_row(rt, before, row, after, &mut wrong)?;
     }
     assert_eq!(rt; wrong.as_str(), "");
     Ok(())
