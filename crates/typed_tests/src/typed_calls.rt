@@ -9,6 +9,7 @@ use block_types::{FieldShape, Typed, check};
 use sim_lexer::lex;
 use sim_parser::parse;
 use sim_syntax::Lowered;
+use std::alloc::{AllocError, Global};
 use std::process::Abort;
 use std::test::Fail;
 use type_rules::{BlockShape, NodeType};
@@ -226,25 +227,62 @@ static OF_DOUBLED: [NodeRow; 5] = [
 
 static OF_SUMMED: [NodeRow; 1] = [OWN];
 
+/// Asserts what the nodes of the program of a text are, in their order.
+fn assert_nodes_of(
+    rt: &(impl Abort + AllocGlobal),
+    text: &str,
+    rows: &[NodeRow],
+) -> Result<(), Fail> {
+    let typed = typed(rt, text)?;
+    assert_nodes(rt, &typed, rows)
+}
+
 #[test]
-fn nodes_of_springs(rt: HostRuntime) -> Result<(), Fail> {
-    let alloc = rt.alloc();
-    assert_nodes(&rt, &typed(&rt, PULLING)?, &OF_PULLING)?;
-    assert_nodes(&rt, &typed(&rt, STIFFNESS)?, &OF_STIFFNESS)?;
-    let rescaled = STIFFNESS.replace(alloc, "-(K*points.x)", "rescale(K,0)*points.x")?;
-    assert_nodes(&rt, &typed(&rt, rescaled.as_str())?, &OF_RESCALED)?;
+fn nodes_of_pulling_springs(rt: HostRuntime) -> Result<(), Fail> {
+    assert_nodes_of(&rt, PULLING, &OF_PULLING)
+}
+
+#[test]
+fn nodes_of_a_stiffness_matrix(rt: HostRuntime) -> Result<(), Fail> {
+    assert_nodes_of(&rt, STIFFNESS, &OF_STIFFNESS)
+}
+
+#[test]
+fn nodes_of_a_rescaled_matrix(rt: HostRuntime) -> Result<(), Fail> {
+    let text = STIFFNESS.replace(rt.alloc(), "-(K*points.x)", "rescale(K,0)*points.x")?;
+    assert_nodes_of(&rt, text.as_str(), &OF_RESCALED)
+}
+
+#[test]
+fn nodes_of_a_field_that_a_matrix_reads(rt: HostRuntime) -> Result<(), Fail> {
     let line = "reduce +;\n  springs.k = springs.k + springs.k;";
-    let written = STIFFNESS.replace(alloc, "reduce +;", line)?;
-    assert_nodes(&rt, &typed(&rt, written.as_str())?, &OF_WRITTEN)?;
-    assert_nodes(&rt, &typed(&rt, RATIO)?, &OF_RATIO)?;
-    assert_nodes(&rt, &typed(&rt, two_ratios(&rt)?.as_str())?, &OF_TWO_RATIOS)?;
-    assert_nodes(&rt, &typed(&rt, DOUBLED)?, &OF_DOUBLED)?;
-    assert_nodes(&rt, &typed(&rt, SUMMED)?, &OF_SUMMED)
+    let text = STIFFNESS.replace(rt.alloc(), "reduce +;", line)?;
+    assert_nodes_of(&rt, text.as_str(), &OF_WRITTEN)
+}
+
+#[test]
+fn nodes_of_a_ratio(rt: HostRuntime) -> Result<(), Fail> {
+    assert_nodes_of(&rt, RATIO, &OF_RATIO)
+}
+
+#[test]
+fn nodes_of_two_ratios(rt: HostRuntime) -> Result<(), Fail> {
+    let text = two_ratios(rt.alloc())?;
+    assert_nodes_of(&rt, text.as_str(), &OF_TWO_RATIOS)
+}
+
+#[test]
+fn nodes_of_places_that_are_written_twice(rt: HostRuntime) -> Result<(), Fail> {
+    assert_nodes_of(&rt, DOUBLED, &OF_DOUBLED)
+}
+
+#[test]
+fn nodes_of_sums_over_springs(rt: HostRuntime) -> Result<(), Fail> {
+    assert_nodes_of(&rt, SUMMED, &OF_SUMMED)
 }
 
 /// A quotient for each spring, and another.
-fn two_ratios(rt: &(impl Abort + AllocGlobal)) -> Result<String, Fail> {
-    let alloc = rt.alloc();
+fn two_ratios(alloc: Global) -> Result<String, AllocError> {
     let other = "func other(s : Spring, p : (Point*2)) -> (K : matrix[points,points](int(0)))
   K(p(0),p(1)) = quot(1, s.k - 1, 0);
 end
@@ -252,7 +290,7 @@ proc main
 ";
     let text = RATIO.replace(alloc, "proc main\n", other)?;
     let line = "reduce +;\n  var M = map other to springs reduce +;";
-    Ok(text.replace(alloc, "reduce +;", line)?)
+    text.replace(alloc, "reduce +;", line)
 }
 
 /// Fixed point numbers of scale 4, and products of two of them.
@@ -437,17 +475,46 @@ static NAMES: [(&str, Option<u32>, Option<u32>, Option<u32>); 22] = [
     ("", None, None, None),
 ];
 
-#[test]
-fn nodes_and_names_of_gradients(rt: HostRuntime) -> Result<(), Fail> {
-    let typed = typed(&rt, GRADIENTS)?;
-    assert_nodes(&rt, &typed, &OF_GRADIENTS)?;
-    assert_variables(&rt, &typed, &VARIABLES)?;
-    assert_sets(&rt, &typed, &[("nodes", None), ("links", Some(0))])?;
-    for (name, set, function, variable) in &NAMES {
-        assert!(rt; typed.find_set(name) == *set, "{name}");
-        assert!(rt; typed.find_function(name) == *function, "{name}");
-        assert!(rt; typed.find_variable(name) == *variable, "{name}");
+/// Asserts what the sets, functions and variables of some names are.
+fn assert_names(
+    rt: &(impl Abort + AllocGlobal),
+    typed: &Typed,
+    rows: &[(&str, Option<u32>, Option<u32>, Option<u32>)],
+) -> Result<(), Fail> {
+    for row in rows {
+        assert!(rt; typed.find_set(row.0) == row.1);
+        assert!(rt; typed.find_function(row.0) == row.2);
+        assert!(rt; typed.find_variable(row.0) == row.3);
     }
+    Ok(())
+}
+
+#[test]
+fn nodes_of_gradients(rt: HostRuntime) -> Result<(), Fail> {
+    assert_nodes_of(&rt, GRADIENTS, &OF_GRADIENTS)
+}
+
+#[test]
+fn variables_of_gradients(rt: HostRuntime) -> Result<(), Fail> {
+    let typed = typed(&rt, GRADIENTS)?;
+    assert_variables(&rt, &typed, &VARIABLES)
+}
+
+#[test]
+fn sets_of_gradients(rt: HostRuntime) -> Result<(), Fail> {
+    let typed = typed(&rt, GRADIENTS)?;
+    assert_sets(&rt, &typed, &[("nodes", None), ("links", Some(0))])
+}
+
+#[test]
+fn names_of_gradients(rt: HostRuntime) -> Result<(), Fail> {
+    let typed = typed(&rt, GRADIENTS)?;
+    assert_names(&rt, &typed, &NAMES)
+}
+
+#[test]
+fn trees_of_gradients(rt: HostRuntime) -> Result<(), Fail> {
+    let typed = typed(&rt, GRADIENTS)?;
     assert_eq!(rt; typed.program().body.len(), 9);
     assert_eq!(rt; typed.typed_program().functions.items().len(), 2);
     Ok(())
@@ -600,14 +667,18 @@ static FIELDS: [(u32, u32, u32, u32, u32, u32); 12] = [
     (2, 1, 3, 1, 1, 7),
 ];
 
-#[test]
-fn fields_and_variables_of_blocks(rt: HostRuntime) -> Result<(), Fail> {
-    let typed = typed(&rt, BLOCKS)?;
-    assert_nodes(&rt, &typed, &OF_BLOCKS)?;
-    assert_variables(&rt, &typed, &[FOUR, FINE, WIDE, ZERO, ADDED])?;
-    assert_sets(&rt, &typed, &[("qs", None), ("ps", None), ("es", Some(1))])?;
-    for (set, field, column, high, wide, scale) in &FIELDS {
-        let (set, column, high, wide, scale) = (*set, *column, *high, *wide, *scale);
+/// A field of a set: the set, the field, its first column, its sides and its scale.
+type FieldRow = (u32, u32, u32, u32, u32, u32);
+
+/// Asserts what the fields of sets are.
+fn assert_fields(
+    rt: &(impl Abort + AllocGlobal),
+    typed: &Typed,
+    rows: &[FieldRow],
+) -> Result<(), Fail> {
+    for row in rows {
+        let (set, field, column, high, wide, scale) = *row;
+        assert!(rt; (field as usize) < field_count(typed, set));
         let want = FieldShape {
             set,
             column,
@@ -615,15 +686,45 @@ fn fields_and_variables_of_blocks(rt: HostRuntime) -> Result<(), Fail> {
             wide,
             scale,
         };
-        assert!(rt; (*field as usize) < field_count(&typed, set));
-        assert!(rt; typed.field(set, *field) == want, "of {set} and {field}");
+        assert!(rt; typed.field(set, field) == want, "of {set} and {field}");
     }
-    // the first of three variables of a name
-    assert_eq!(rt; typed.find_variable("q"), Some(1));
-    assert_eq!(rt; typed.find_variable("r"), Some(4));
-    assert_eq!(rt; typed.find_variable("i"), None);
-    assert_eq!(rt; typed.find_set("P"), None);
-    assert_eq!(rt; typed.find_function("f"), Some(0));
-    assert_eq!(rt; typed.find_function("es"), None);
     Ok(())
+}
+
+#[test]
+fn nodes_of_blocks(rt: HostRuntime) -> Result<(), Fail> {
+    assert_nodes_of(&rt, BLOCKS, &OF_BLOCKS)
+}
+
+#[test]
+fn variables_of_blocks(rt: HostRuntime) -> Result<(), Fail> {
+    let typed = typed(&rt, BLOCKS)?;
+    assert_variables(&rt, &typed, &[FOUR, FINE, WIDE, ZERO, ADDED])
+}
+
+#[test]
+fn sets_of_blocks(rt: HostRuntime) -> Result<(), Fail> {
+    let typed = typed(&rt, BLOCKS)?;
+    assert_sets(&rt, &typed, &[("qs", None), ("ps", None), ("es", Some(1))])
+}
+
+#[test]
+fn fields_of_blocks(rt: HostRuntime) -> Result<(), Fail> {
+    let typed = typed(&rt, BLOCKS)?;
+    assert_fields(&rt, &typed, &FIELDS)
+}
+
+/// Names in the program of blocks: q and r are those of several variables, of which the first is found.
+static OF_NAMES: [(&str, Option<u32>, Option<u32>, Option<u32>); 5] = [
+    ("q", None, None, Some(1)),
+    ("r", None, None, Some(4)),
+    ("i", None, None, None),
+    ("P", None, None, None),
+    ("f", None, Some(0), None),
+];
+
+#[test]
+fn names_of_blocks(rt: HostRuntime) -> Result<(), Fail> {
+    let typed = typed(&rt, BLOCKS)?;
+    assert_names(&rt, &typed, &OF_NAMES)
 }
