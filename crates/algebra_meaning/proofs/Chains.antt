@@ -11,7 +11,7 @@ use Rattle.typed_tree.specs.declared.expression.TypedTerm.{TypedTerm}
 use Rattle.value_algebra.specs.declared.value.Value.{Value}
 use Rattle.value_algebra.specs.Value.{word_of}
 use Rattle.algebra_meaning.specs.declared.stopped.Stopped.{Stopped}
-use Rattle.algebra_meaning.specs.declared.stopped.Stopped.TheVariants.{Trap}
+use Rattle.algebra_meaning.specs.declared.stopped.Stopped.TheVariants.{By}
 use Rattle.algebra_meaning.specs.Expression.{Meant, Operand, Part, Scope, added, expression_part, factor_of, factor_operand, form_meaning, meaning, meanings, multiplied, part_of, row_of, row_values, term_of, term_operand, with_factor, with_row, with_term, with_value}
 use Rattle.algebra_meaning.proofs.Loops.{item_taken, item_refused, items_ended}
 
@@ -41,9 +41,9 @@ term_taken scope total next value known ts i t below here is sums so_far =
     item_taken with_term (term_of scope) total (Some next) known ts i t below here
     (with_term_is scope total t (Ok value) is ∙ ap (λ (v : Value). Ok (Some v)) (sym sums)) so_far
 
-pub term_stopped : (scope : Scope) (total : Option Value) (known : Result (Option Value) TrapKind) (ts : List TypedTerm) (i : ℕ) (t : TypedTerm) (stopped : Stopped)
-    → i < length ts → t ≡ get_or ts i t → ((kind : TrapKind) → stopped ≡ Trap kind → meaning scope t.value ≡ Err kind)
-    → fold_result with_term total (map (term_of scope) (drop i ts)) ≡ known → (kind : TrapKind) → stopped ≡ Trap kind → known ≡ Err kind
+pub term_stopped : (scope : Scope) (total : Option Value) (known : Result (Option Value) TrapKind) (ts : List TypedTerm) (i : ℕ) (t : TypedTerm) (stopped : Stopped TrapKind)
+    → i < length ts → t ≡ get_or ts i t → ((kind : TrapKind) → stopped ≡ By kind → meaning scope t.value ≡ Err kind)
+    → fold_result with_term total (map (term_of scope) (drop i ts)) ≡ known → (kind : TrapKind) → stopped ≡ By kind → known ≡ Err kind
 term_stopped scope total known ts i t stopped below here stops so_far kind is =
     item_refused with_term (term_of scope) total known ts i t kind below here (with_term_is scope total t (Err kind) (stops kind is)) so_far
 
@@ -68,9 +68,9 @@ factor_taken scope product next value known fs i f below here is gives so_far =
     (with_factor_is scope product f (Ok value) is
     ∙ ap (λ (v : Value). Ok (Some (f.node.value_type, v))) (ap (λ (type : NodeType). multiplied product f.entrywise type value) (type_is scope f.value) ∙ sym gives)) so_far
 
-pub factor_stopped : (scope : Scope) (product : Option (NodeType × Value)) (known : Result (Option (NodeType × Value)) TrapKind) (fs : List TypedFactor) (i : ℕ) (f : TypedFactor) (stopped : Stopped)
-    → i < length fs → f ≡ get_or fs i f → ((kind : TrapKind) → stopped ≡ Trap kind → meaning scope f.value ≡ Err kind)
-    → fold_result with_factor product (map (factor_of scope) (drop i fs)) ≡ known → (kind : TrapKind) → stopped ≡ Trap kind → known ≡ Err kind
+pub factor_stopped : (scope : Scope) (product : Option (NodeType × Value)) (known : Result (Option (NodeType × Value)) TrapKind) (fs : List TypedFactor) (i : ℕ) (f : TypedFactor) (stopped : Stopped TrapKind)
+    → i < length fs → f ≡ get_or fs i f → ((kind : TrapKind) → stopped ≡ By kind → meaning scope f.value ≡ Err kind)
+    → fold_result with_factor product (map (factor_of scope) (drop i fs)) ≡ known → (kind : TrapKind) → stopped ≡ By kind → known ≡ Err kind
 factor_stopped scope product known fs i f stopped below here stops so_far kind is =
     item_refused with_factor (factor_of scope) product known fs i f kind below here (with_factor_is scope product f (Err kind) (stops kind is)) so_far
 
@@ -91,9 +91,9 @@ pub row_taken : (scope : Scope) (words grown : List ℕ) (values : List Value) (
 row_taken scope words grown values known rs i r below here is more so_far =
     item_taken with_row (row_of scope) words grown known rs i r below here (with_row_is scope words r (Ok values) is ∙ ap Ok (sym more)) so_far
 
-pub row_stopped : (scope : Scope) (words : List ℕ) (known : Result (List ℕ) TrapKind) (rs : List TypedRow) (i : ℕ) (r : TypedRow) (stopped : Stopped)
-    → i < length rs → r ≡ get_or rs i r → ((kind : TrapKind) → stopped ≡ Trap kind → meanings scope (out-TypedRow r).entries ≡ Err kind)
-    → fold_result with_row words (map (row_of scope) (drop i rs)) ≡ known → (kind : TrapKind) → stopped ≡ Trap kind → known ≡ Err kind
+pub row_stopped : (scope : Scope) (words : List ℕ) (known : Result (List ℕ) TrapKind) (rs : List TypedRow) (i : ℕ) (r : TypedRow) (stopped : Stopped TrapKind)
+    → i < length rs → r ≡ get_or rs i r → ((kind : TrapKind) → stopped ≡ By kind → meanings scope (out-TypedRow r).entries ≡ Err kind)
+    → fold_result with_row words (map (row_of scope) (drop i rs)) ≡ known → (kind : TrapKind) → stopped ≡ By kind → known ≡ Err kind
 row_stopped scope words known rs i r stopped below here stops so_far kind is =
     item_refused with_row (row_of scope) words known rs i r kind below here (with_row_is scope words r (Err kind) (stops kind is)) so_far
 
@@ -113,9 +113,9 @@ pub value_taken : (scope : Scope) (values grown : List Value) (value : Value) (k
 value_taken scope values grown value known es i e below here is more so_far =
     item_taken with_value (part_of scope) values grown known es i e below here (with_value_is scope values e (Ok value) is ∙ ap Ok (sym more)) so_far
 
-pub value_stopped : (scope : Scope) (values : List Value) (known : Result (List Value) TrapKind) (es : List TypedExpr) (i : ℕ) (e : TypedExpr) (stopped : Stopped)
-    → i < length es → e ≡ get_or es i e → ((kind : TrapKind) → stopped ≡ Trap kind → meaning scope e ≡ Err kind)
-    → fold_result with_value values (map (part_of scope) (drop i es)) ≡ known → (kind : TrapKind) → stopped ≡ Trap kind → known ≡ Err kind
+pub value_stopped : (scope : Scope) (values : List Value) (known : Result (List Value) TrapKind) (es : List TypedExpr) (i : ℕ) (e : TypedExpr) (stopped : Stopped TrapKind)
+    → i < length es → e ≡ get_or es i e → ((kind : TrapKind) → stopped ≡ By kind → meaning scope e ≡ Err kind)
+    → fold_result with_value values (map (part_of scope) (drop i es)) ≡ known → (kind : TrapKind) → stopped ≡ By kind → known ≡ Err kind
 value_stopped scope values known es i e stopped below here stops so_far kind is =
     item_refused with_value (part_of scope) values known es i e kind below here (with_value_is scope values e (Err kind) (stops kind is)) so_far
 

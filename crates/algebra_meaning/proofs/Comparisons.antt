@@ -3,7 +3,7 @@ use Rattle.std.proofs.Common.{◌≡◌, ℕ, ◌+◌, ◌<◌, ◌≤◌, Bool,
 use Rattle.vocabulary.specs.Answers.{fold_result}
 use Rattle.ring_words.specs.declared.trap.TrapKind.{TrapKind}
 use Rattle.algebra_meaning.specs.declared.stopped.Stopped.{Stopped}
-use Rattle.algebra_meaning.specs.declared.stopped.Stopped.TheVariants.{Trap}
+use Rattle.algebra_meaning.specs.declared.stopped.Stopped.TheVariants.{By}
 use Rattle.algebra_meaning.specs.Expression.{and_also, or_else}
 use Rattle.algebra_meaning.proofs.Loops.{item_taken, item_refused, items_ended}
 
@@ -13,9 +13,9 @@ pub and_taken : {X : Type 0} (f : X → Result Bool TrapKind) (all next one : Bo
 and_taken f all next one known xs i x below here is gives so_far =
     item_taken and_also f all next known xs i x below here (ap (and_also all) is ∙ ap Ok (sym gives)) so_far
 
-pub and_stopped : {X : Type 0} (f : X → Result Bool TrapKind) (all : Bool) (known : Result Bool TrapKind) (xs : List X) (i : ℕ) (x : X) (stopped : Stopped)
-    → i < length xs → x ≡ get_or xs i x → ((kind : TrapKind) → stopped ≡ Trap kind → f x ≡ Err kind)
-    → fold_result and_also all (map f (drop i xs)) ≡ known → (kind : TrapKind) → stopped ≡ Trap kind → known ≡ Err kind
+pub and_stopped : {X : Type 0} (f : X → Result Bool TrapKind) (all : Bool) (known : Result Bool TrapKind) (xs : List X) (i : ℕ) (x : X) (stopped : Stopped TrapKind)
+    → i < length xs → x ≡ get_or xs i x → ((kind : TrapKind) → stopped ≡ By kind → f x ≡ Err kind)
+    → fold_result and_also all (map f (drop i xs)) ≡ known → (kind : TrapKind) → stopped ≡ By kind → known ≡ Err kind
 and_stopped f all known xs i x stopped below here stops so_far kind is =
     item_refused and_also f all known xs i x kind below here (ap (and_also all) (stops kind is)) so_far
 
@@ -29,9 +29,9 @@ pub or_taken : {X : Type 0} (f : X → Result Bool TrapKind) (any next one : Boo
 or_taken f any next one known xs i x below here is gives so_far =
     item_taken or_else f any next known xs i x below here (ap (or_else any) is ∙ ap Ok (sym gives)) so_far
 
-pub or_stopped : {X : Type 0} (f : X → Result Bool TrapKind) (any : Bool) (known : Result Bool TrapKind) (xs : List X) (i : ℕ) (x : X) (stopped : Stopped)
-    → i < length xs → x ≡ get_or xs i x → ((kind : TrapKind) → stopped ≡ Trap kind → f x ≡ Err kind)
-    → fold_result or_else any (map f (drop i xs)) ≡ known → (kind : TrapKind) → stopped ≡ Trap kind → known ≡ Err kind
+pub or_stopped : {X : Type 0} (f : X → Result Bool TrapKind) (any : Bool) (known : Result Bool TrapKind) (xs : List X) (i : ℕ) (x : X) (stopped : Stopped TrapKind)
+    → i < length xs → x ≡ get_or xs i x → ((kind : TrapKind) → stopped ≡ By kind → f x ≡ Err kind)
+    → fold_result or_else any (map f (drop i xs)) ≡ known → (kind : TrapKind) → stopped ≡ By kind → known ≡ Err kind
 or_stopped f any known xs i x stopped below here stops so_far kind is =
     item_refused or_else f any known xs i x kind below here (ap (or_else any) (stops kind is)) so_far
 

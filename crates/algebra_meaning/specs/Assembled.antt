@@ -15,7 +15,9 @@ use Rattle.typed_tree.specs.declared.program.TypedProgram.{TypedProgram}
 use Rattle.value_algebra.specs.declared.value.Value.{Value}
 use Rattle.algebra_meaning.specs.declared.context.ElementContext.{ElementContext}
 use Rattle.value_algebra.specs.Value.{row_by_row, word_at}
-use Rattle.algebra_meaning.specs.Element.{Contribution, contributions}
+use Rattle.algebra_meaning.specs.declared.contribution.Contribution.{Contribution}
+use Rattle.algebra_meaning.specs.declared.stopped.Trapped.{Trapped}
+use Rattle.algebra_meaning.specs.Element.{contributions}
 
 -- ---- sizes
 
@@ -69,13 +71,9 @@ all_assembled sets contributed number (result ∷ results) =
 
 -- ---- maps
 
--- the least element that traps, and its trap
-abbrev pub Trapped : Type 0
-Trapped = ℕ × TrapKind
-
 abbrev pub of_element : {A : Type 0} → ℕ → Result A TrapKind → Result A Trapped
 of_element element (Ok value) = Ok value
-of_element element (Err trap) = Err (element, trap)
+of_element element (Err trap) = Err (record { element = element; kind = trap })
 
 -- where a function runs at an element of a set
 abbrev pub place_of : TypedFunction → ℕ → ℕ → ElementContext
@@ -90,7 +88,7 @@ abbrev pub with_element : TypedProgram → List SetValue → ℕ → TypedFuncti
 with_element program sets set function args so_far element =
     of_element element (contributions_at program sets set function args element) >>= λ contributed. Ok (so_far ++ contributed)
 
--- what all elements of a set contribute, in their order, or the first trap
+-- what all elements of a set contribute, in their order, or the trap of the least element that traps
 unfoldable pub all_contributions : TypedProgram → List SetValue → ℕ → TypedFunction → List Value → Result (List Contribution) Trapped
 all_contributions program sets set function args =
     fold_result (with_element program sets set function args) [] (range_with_len 0 (set_at sets set).count)

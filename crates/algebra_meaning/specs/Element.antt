@@ -18,20 +18,10 @@ use Rattle.typed_tree.specs.declared.function.WrittenPlace.TheVariants as place
 use Rattle.typed_tree.specs.declared.program.TypedProgram.{TypedProgram}
 use Rattle.value_algebra.specs.declared.value.Value.{Value}
 use Rattle.algebra_meaning.specs.declared.context.ElementContext.{ElementContext}
+use Rattle.algebra_meaning.specs.declared.contribution.Contribution.{Contribution}
+use Rattle.algebra_meaning.specs.declared.contribution.Point.{Point}
 use Rattle.value_algebra.specs.Value.{number, word_of}
 use Rattle.algebra_meaning.specs.Expression.{Scope, meaning, holds, value_at, end_of}
-
--- what is added to a result at a row, and at a column where it is a matrix
-pub record Contribution : Type 0 where
-  pub result : ℕ
-  pub row : ℕ
-  pub column : ℕ
-  pub block : Value
-
--- a point of a function: its locals, and what was contributed before
-pub record Point : Type 0 where
-  pub locals : List Value
-  pub contributed : List Contribution
 
 abbrev pub Steps : Type 0
 Steps = Point → Result Point TrapKind

@@ -23,8 +23,14 @@ use Rattle.value_algebra.specs.Value.{number, word_of}
 use Rattle.value_algebra.specs.Fields.{with_field}
 use Rattle.algebra_meaning.specs.Expression.{Scope, meaning, meanings, holds, no_value, set_fields}
 use Rattle.algebra_meaning.specs.Element.{with_local}
-use Rattle.algebra_meaning.specs.Assembled.{Trapped, mapped}
-use Rattle.algebra_meaning.specs.State.{State, Stop, Traps, Spent, Runs}
+use Rattle.algebra_meaning.specs.declared.state.State.{State}
+use Rattle.algebra_meaning.specs.declared.stopped.Stop.{Stop}
+use Rattle.algebra_meaning.specs.declared.stopped.Stop.TheVariants.{Trap, Spent}
+use Rattle.algebra_meaning.specs.declared.stopped.Trapped.{Trapped}
+use Rattle.algebra_meaning.specs.Assembled.{mapped}
+
+abbrev pub Runs : Type 0
+Runs = State → Result State Stop
 
 -- what the names of an expression of the main procedure stand for
 abbrev pub scope_in : TypedProgram → State → Scope
@@ -35,13 +41,20 @@ scope_in program state = record { program = program; sets = state.sets; variable
 -- a trap outside of maps, and one of a map's element
 abbrev pub at : {A : Type 0} → ℕ → Result A TrapKind → Result A Stop
 at line (Ok value) = Ok value
-at line (Err kind) = Err (Traps (record { line = line; element = None; kind = kind }))
+at line (Err kind) = Err (Trap line None kind)
 
 abbrev pub at_element : {A : Type 0} → ℕ → Result A Trapped → Result A Stop
 at_element line (Ok value) = Ok value
-at_element line (Err trapped) = Err (Traps (record { line = line; element = Some trapped.0; kind = trapped.1 }))
+at_element line (Err trapped) = Err (Trap line (Some trapped.element) trapped.kind)
 
 -- ---- right sides
+
+-- the value of an expression, and those of a map's arguments
+abbrev pub value_in : TypedProgram → State → ℕ → TypedExpr → Result Value Stop
+value_in program state line e = at line (meaning (scope_in program state) e)
+
+abbrev pub arguments : TypedProgram → State → ℕ → List TypedExpr → Result (List Value) Stop
+arguments program state line args = at line (meanings (scope_in program state) args)
 
 abbrev pub map_values : TypedProgram → State → ℕ → Option TypedFunction → ℕ → List Value → Result (List Value) Stop
 map_values program state line None set args = Ok []
@@ -49,9 +62,9 @@ map_values program state line (Some function) set args = at_element line (mapped
 
 -- the values of a right side: the results of a map, whose arguments are evaluated once, or one
 unfoldable pub right_values : TypedProgram → State → ℕ → TypedRight → Result (List Value) Stop
-right_values program state line (right.Value e) = at line (meaning (scope_in program state) e) >>= λ value. Ok (value ∷ [])
+right_values program state line (right.Value e) = value_in program state line e >>= λ value. Ok (value ∷ [])
 right_values program state line (right.Map function set args) =
-    at line (meanings (scope_in program state) args) >>= λ values. map_values program state line (slice_get program.functions function) set values
+    arguments program state line args >>= λ values. map_values program state line (slice_get program.functions function) set values
 
 -- ---- what is assigned
 
@@ -75,7 +88,7 @@ with_set state set changed = record {
 unfoldable pub assigned : TypedProgram → State → TypedTarget × Value → State
 assigned program state (target.Variable variable, value) = with_variable state variable value
 assigned program state (target.Field set field, value) =
-    with_set state set (with_field (set_fields program set) (set_at state.sets set) field value)
+    with_set state set (with_field (set_fields program set) (set_at state.sets set) field value.words)
 
 -- targets get values, from left to right
 abbrev pub all_assigned : TypedProgram → State → List (TypedTarget × Value) → State
@@ -115,8 +128,8 @@ while_up_to zero condition body state = Err Spent
 while_up_to (suc bound) condition body state =
     condition state >>= λ held. if held then turn body state >>= while_up_to bound condition body else Ok state
 
-unfoldable pub while : TypedProgram → ℕ → TypedCond → List Runs → Runs
-while program line cond body state = while_up_to (suc state.turns) (test program line cond) body state
+unfoldable pub while_held : TypedProgram → ℕ → TypedCond → List Runs → Runs
+while_held program line cond body state = while_up_to (suc state.turns) (test program line cond) body state
 
 -- turns with the values from one up to below another, by their signed readings
 abbrev pub count_up_to : ℕ → ℕ → ℕ → ℕ → List Runs → Runs
@@ -129,8 +142,8 @@ count_up_to (suc bound) local from to body state =
 -- the bounds are evaluated once
 unfoldable pub counted : TypedProgram → ℕ → ℕ → TypedExpr → TypedExpr → List Runs → Runs
 counted program line local from to body state = do
-  a ← at line (meaning (scope_in program state) from)
-  b ← at line (meaning (scope_in program state) to)
+  a ← value_in program state line from
+  b ← value_in program state line to
   count_up_to (suc state.turns) local (word_of a) (word_of b) body state
 
 -- ---- choices and assertions
@@ -146,7 +159,7 @@ asserted program line cond state = test program line cond state >>= λ held. if 
 unfoldable pub statement_runs : TypedProgram → MainStmt-F Runs → Runs
 statement_runs program (MainStmt-F.Var line variables e) = assignment program line (map target.Variable variables) e
 statement_runs program (MainStmt-F.Assign line targets e) = assignment program line targets e
-statement_runs program (MainStmt-F.While line cond body) = while program line cond body
+statement_runs program (MainStmt-F.While line cond body) = while_held program line cond body
 statement_runs program (MainStmt-F.For line local from to body) = counted program line local from to body
 statement_runs program (MainStmt-F.If line cond body otherwise) = chosen program line cond body otherwise
 statement_runs program (MainStmt-F.Assert line cond) = asserted program line cond

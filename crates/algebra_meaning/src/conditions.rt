@@ -8,7 +8,7 @@ ghost use Rattle.algebra_meaning.specs.Means.{Means};
 use crate::expression::meaning;
 use crate::scope::Scope;
 use crate::stopped::Stopped;
-use ring_words::less;
+use ring_words::{TrapKind, less};
 use sim_syntax::CmpOp;
 use std::alloc::Global;
 use typed_tree::{TypedCmp, TypedCond, TypedConjunction};
@@ -40,7 +40,7 @@ fn held(negated: bool, op: CmpOp, a: u64, b: u64) -> bool
 
 /// Whether a comparison holds, or the first trap.
 #[tactic(auto, unfolding(crate::specs::Expression::comparison))]
-fn comparison(alloc: Global, cmp: &TypedCmp, scope: &Scope<'_>) -> Result<bool, Stopped>
+fn comparison(alloc: Global, cmp: &TypedCmp, scope: &Scope<'_>) -> Result<bool, Stopped<TrapKind>>
     ensures { Means (spec.comparison scope.now cmp.now) result }
 {
     let left = meaning(alloc, &cmp.left, scope)?;
@@ -54,7 +54,7 @@ fn conjunction(
     alloc: Global,
     conjunction: &TypedConjunction,
     scope: &Scope<'_>,
-) -> Result<bool, Stopped>
+) -> Result<bool, Stopped<TrapKind>>
     ensures { Means (spec.conjunction scope.now conjunction.now) result }
 {
     let mut all = true;
@@ -67,7 +67,7 @@ fn conjunction(
 
 /// Whether a condition holds, or the first trap.
 #[tactic(auto, unfolding(crate::specs::Expression::holds), using(crate::proofs::Comparisons::or_taken, crate::proofs::Comparisons::or_stopped, crate::proofs::Comparisons::or_ended))]
-pub fn holds(alloc: Global, cond: &TypedCond, scope: &Scope<'_>) -> Result<bool, Stopped>
+pub fn holds(alloc: Global, cond: &TypedCond, scope: &Scope<'_>) -> Result<bool, Stopped<TrapKind>>
     ensures { Means (spec.holds scope.now cond.now) result }
 {
     let mut any = false;

@@ -18,7 +18,7 @@ use vocabulary::L;
 
 /// What an expression means, by what its names stand for: its value, or the first trap.
 #[cycle(expression)]
-pub fn meaning(alloc: Global, e: &TypedExpr, scope: &Scope<'_>) -> Result<Value, Stopped>
+pub fn meaning(alloc: Global, e: &TypedExpr, scope: &Scope<'_>) -> Result<Value, Stopped<TrapKind>>
     ensures { Means (spec.meaning scope.now e.now) result }
 {
     let value = form_meaning(alloc, &e.form, e.node.value_type, scope)?;
@@ -33,7 +33,7 @@ fn form_meaning(
     form: &TypedForm,
     value_type: NodeType,
     scope: &Scope<'_>,
-) -> Result<Value, Stopped>
+) -> Result<Value, Stopped<TrapKind>>
     ensures { Means (spec.form_of scope.now form.now value_type) result }
 {
     match form {
@@ -80,7 +80,7 @@ pub fn meanings(
     alloc: Global,
     expressions: &[TypedExpr],
     scope: &Scope<'_>,
-) -> Result<L<Value>, Stopped>
+) -> Result<L<Value>, Stopped<TrapKind>>
     ensures { Means (spec.meanings scope.now expressions.now) result }
 {
     let mut values = L::empty(alloc);
@@ -94,7 +94,7 @@ pub fn meanings(
 /// The entries of rows of a block, one row after the other.
 #[cycle(expression)]
 #[tactic(auto, using(crate::proofs::Chains::row_taken, crate::proofs::Chains::row_stopped, crate::proofs::Chains::rows_ended))]
-fn entries(alloc: Global, rows: &[TypedRow], scope: &Scope<'_>) -> Result<L<u64>, Stopped>
+fn entries(alloc: Global, rows: &[TypedRow], scope: &Scope<'_>) -> Result<L<u64>, Stopped<TrapKind>>
     ensures { Means (spec.entries (map (spec.row_of scope.now) rows.now)) result }
 {
     let mut words = L::empty(alloc);
@@ -113,7 +113,7 @@ fn written(
     rows: &[TypedRow],
     value_type: NodeType,
     scope: &Scope<'_>,
-) -> Result<Value, Stopped>
+) -> Result<Value, Stopped<TrapKind>>
     ensures { Means (spec.written value_type (map (spec.row_of scope.now) rows.now)) result }
 {
     let words = entries(alloc, rows, scope)?;
@@ -123,7 +123,7 @@ fn written(
 /// The total of terms; none where there are none.
 #[cycle(expression)]
 #[tactic(auto, using(crate::proofs::Chains::term_taken, crate::proofs::Chains::term_stopped, crate::proofs::Chains::terms_ended))]
-fn total(alloc: Global, terms: &[TypedTerm], scope: &Scope<'_>) -> Result<Option<Value>, Stopped>
+fn total(alloc: Global, terms: &[TypedTerm], scope: &Scope<'_>) -> Result<Option<Value>, Stopped<TrapKind>>
     ensures { Means (spec.total (map (spec.term_of scope.now) terms.now)) result }
 {
     let mut total = None;
@@ -137,7 +137,7 @@ fn total(alloc: Global, terms: &[TypedTerm], scope: &Scope<'_>) -> Result<Option
 /// What a sum means.
 #[cycle(expression)]
 #[tactic(auto, unfolding(crate::specs::Expression::sum))]
-fn sum(alloc: Global, terms: &[TypedTerm], scope: &Scope<'_>) -> Result<Value, Stopped>
+fn sum(alloc: Global, terms: &[TypedTerm], scope: &Scope<'_>) -> Result<Value, Stopped<TrapKind>>
     ensures { Means (spec.sum (map (spec.term_of scope.now) terms.now)) result }
 {
     let total = total(alloc, terms, scope)?;
@@ -151,7 +151,7 @@ fn chain(
     alloc: Global,
     factors: &[TypedFactor],
     scope: &Scope<'_>,
-) -> Result<Option<(NodeType, Value)>, Stopped>
+) -> Result<Option<(NodeType, Value)>, Stopped<TrapKind>>
     ensures { Means (spec.chain (map (spec.factor_of scope.now) factors.now)) result }
 {
     let mut so_far = None;
@@ -167,7 +167,7 @@ fn chain(
 /// What a product means.
 #[cycle(expression)]
 #[tactic(auto, unfolding(crate::specs::Expression::product))]
-fn product(alloc: Global, factors: &[TypedFactor], scope: &Scope<'_>) -> Result<Value, Stopped>
+fn product(alloc: Global, factors: &[TypedFactor], scope: &Scope<'_>) -> Result<Value, Stopped<TrapKind>>
     ensures { Means (spec.product (map (spec.factor_of scope.now) factors.now)) result }
 {
     let product = chain(alloc, factors, scope)?;
@@ -177,7 +177,7 @@ fn product(alloc: Global, factors: &[TypedFactor], scope: &Scope<'_>) -> Result<
 /// A transposed value.
 #[cycle(expression)]
 #[tactic(auto, unfolding(crate::specs::Expression::transposed_part))]
-fn transposed_value(alloc: Global, value: &TypedExpr, scope: &Scope<'_>) -> Result<Value, Stopped>
+fn transposed_value(alloc: Global, value: &TypedExpr, scope: &Scope<'_>) -> Result<Value, Stopped<TrapKind>>
     ensures { Means (spec.transposed_part (spec.part_of scope.now value.now)) result }
 {
     let value = meaning(alloc, value, scope)?;
@@ -193,7 +193,7 @@ fn rescaled_value(
     value: &TypedExpr,
     value_type: NodeType,
     scope: &Scope<'_>,
-) -> Result<Value, Stopped>
+) -> Result<Value, Stopped<TrapKind>>
     ensures { Means (spec.rescaled_part (scale_of value_type) (spec.part_of scope.now value.now)) result }
 {
     let from = scale_of(value.node.value_type);
@@ -210,7 +210,7 @@ fn divided(
     right_type: NodeType,
     left: &Value,
     right: &Value,
-) -> Result<Value, Stopped>
+) -> Result<Value, Stopped<TrapKind>>
     ensures { Means (spec.divided to left_type right_type left.now right.now) result }
 {
     let from = scale_of(left_type);
@@ -227,7 +227,7 @@ fn root(
     value: &TypedExpr,
     value_type: NodeType,
     scope: &Scope<'_>,
-) -> Result<Value, Stopped>
+) -> Result<Value, Stopped<TrapKind>>
     ensures { Means (spec.root (scale_of value_type) (spec.part_of scope.now value.now)) result }
 {
     let from = scale_of(value.node.value_type);

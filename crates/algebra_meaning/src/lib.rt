@@ -4,14 +4,19 @@
 
 mod conditions;
 mod context;
+mod contribution;
 mod expression;
 mod parts;
 mod references;
 mod scope;
+mod state;
 mod stopped;
 
 pub use conditions::holds;
 pub use context::ElementContext;
+pub use contribution::{Contribution, Point};
 pub use expression::{meaning, meanings};
+pub use references::{end_of, value_at};
 pub use scope::Scope;
-pub use stopped::Stopped;
+pub use state::State;
+pub use stopped::{Stop, Stopped, Trapped};

@@ -108,12 +108,12 @@ pub(crate) fn block_in(value_type: NodeType) -> BlockShape
 }
 
 /// A number, or a trap where there is none.
-pub(crate) fn or_trap(alloc: Global, trap: TrapKind, word: Option<u64>) -> Result<Value, Stopped>
+pub(crate) fn or_trap(alloc: Global, trap: TrapKind, word: Option<u64>) -> Result<Value, Stopped<TrapKind>>
     ensures { Means (spec.or_trap trap word) result }
 {
     match word {
         Some(word) => Ok(Value::number(alloc, word)?),
-        None => Err(Stopped::Trap(trap)),
+        None => Err(Stopped::By(trap)),
     }
 }
 

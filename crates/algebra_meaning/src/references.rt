@@ -14,7 +14,7 @@ use value_algebra::{Value, element_in, field_at, field_over, fields_of};
 use vocabulary::NoMemory;
 
 /// A copy of the value of a number; one of no rows where there is none.
-fn value_at(alloc: Global, values: &[Value], number: u32) -> Result<Value, NoMemory>
+pub fn value_at(alloc: Global, values: &[Value], number: u32) -> Result<Value, NoMemory>
     ensures { IfOk result (λ value. value ≡ spec.value_at values.now number) }
 {
     match values.get(number as usize) {
@@ -69,7 +69,7 @@ fn end_in(sets: &Sets, set: u32, element: u32, position: u64) -> u32
 }
 
 /// The endpoint of a function's element at a position.
-pub(crate) fn end_of(sets: &Sets, place: ElementContext, position: u64) -> u32
+pub fn end_of(sets: &Sets, place: ElementContext, position: u64) -> u32
     ensures { result ≡ spec.end_of sets.now place position }
 {
     end_in(sets, place.mapped, place.element, position)

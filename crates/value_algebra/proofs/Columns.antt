@@ -9,7 +9,6 @@ use Rattle.std.proofs.lemmas.List.FromFn.{length-map-range_with_len, map-range_w
 use Rattle.std.proofs.lemmas.List.Sums.{sum_by-cons}
 use Rattle.hypergraph.specs.SetValue.{SetValue, with_column}
 use Rattle.hypergraph.specs.Sets.{set_at, empty_set}
-use Rattle.value_algebra.specs.declared.value.Value.{Value}
 use Rattle.value_algebra.specs.Fields.{HaveLength, column_words, with_columns}
 
 cut_from : {X : Type 0} (most : ℕ) (f : X → ℕ) (before : ℕ) (xs : List X)
@@ -50,10 +49,10 @@ pub list_more : {A : Type 0} (f : ℕ → A) (old new : List A) (n : ℕ) (x : A
 list_more f old new n x so_far more is =
     more ∙ ap (λ l. l ++ x ∷ []) so_far ∙ ap (λ y. map f (range_with_len 0 n) ++ y ∷ []) is ∙ sym (map-range_with_len_more f 0 n n (omega arith))
 
--- a column of a value has as many words as the set has elements
-pub column_length : (count size : ℕ) (value : Value) (component : ℕ) (words : List ℕ) → words ≡ column_words count size value component → length words ≡ count
-column_length count size value component words is =
-    ap length is ∙ length-map-range_with_len (λ element. get_or value.words (element * size + component) 0) 0 count
+-- a column has as many words as the set has elements
+pub column_length : (count size : ℕ) (all : List ℕ) (component : ℕ) (words : List ℕ) → words ≡ column_words count size all component → length words ≡ count
+column_length count size all component words is =
+    ap length is ∙ length-map-range_with_len (λ element. get_or all (element * size + component) 0) 0 count
 
 -- ---- columns that are replaced one after the other
 

@@ -59,20 +59,20 @@ field_over fields set field = record {
   words = flat_map (element_words fields set field) (range_with_len 0 set.count);
 }
 
--- the words of one of several columns in a value over a set
-abbrev pub column_words : ℕ → ℕ → Value → ℕ → List ℕ
-column_words count size value component = map (λ element. slice_index value.words (element * size + component)) (range_with_len 0 count)
+-- the words of one of several columns in words that stand element after element
+abbrev pub column_words : ℕ → ℕ → List ℕ → ℕ → List ℕ
+column_words count size words component = map (λ element. slice_index words (element * size + component)) (range_with_len 0 count)
 
 -- the set with other words in the columns from one on; a column that isn't there stays away
 abbrev pub with_columns : SetValue → ℕ → List (List ℕ) → SetValue
 with_columns set first [] = set
 with_columns set first (words ∷ columns) = with_columns (with_column set first words) (first + 1) columns
 
--- the set with another value in a field
-unfoldable pub with_field : List TypedField → SetValue → ℕ → Value → SetValue
-with_field fields set field value =
+-- the set with other words in a field: element after element, each its block row by row
+unfoldable pub with_field : List TypedField → SetValue → ℕ → List ℕ → SetValue
+with_field fields set field words =
     let size = entries_in (block_of fields field) in
-    with_columns set (first_column fields field) (map (column_words set.count size value) (range_with_len 0 size))
+    with_columns set (first_column fields field) (map (column_words set.count size words) (range_with_len 0 size))
 
 -- each of several columns has so many words
 pub record HaveLength (count : ℕ) (columns : List (List ℕ)) : Type 0 where

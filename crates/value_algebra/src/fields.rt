@@ -9,7 +9,7 @@ ghost use Rattle.value_algebra.specs.Fields as spec;
 ghost use Rattle.value_algebra.specs.Fields.{HaveLength};
 ghost use Rattle.value_algebra.specs.declared.fields.TheConstants.{PAST_COLUMNS};
 
-use crate::value::Value;
+use crate::value::{Value, entry};
 use hypergraph::Sets;
 use std::alloc::{AllocError, Global};
 use type_rules::BlockShape;
@@ -209,35 +209,35 @@ pub fn field_over(
     }
 }
 
-/// The words of one of several columns in a value over so many elements.
+/// The words of one of several columns, out of words that stand element after element.
 fn column_words(
     alloc: Global,
     count: u32,
     size: u64,
-    value: &Value,
+    words: &[u64],
     component: u64,
 ) -> Result<Vec<u64>, AllocError>
-    ensures { IfOk result (λ words. words.items ≡ spec.column_words count size value.now component) }
+    ensures { IfOk result (λ column. column.items ≡ spec.column_words count size words.now component) }
 {
-    let words = (0..count).map(|element| value.entry(u64::from(element), size, component));
-    words.collect(alloc)
+    let column = (0..count).map(|element| entry(words, u64::from(element), size, component));
+    column.collect(alloc)
 }
 
-/// The columns of a value over so many elements.
+/// The columns of words that stand element after element.
 #[tactic(auto, using(crate::proofs::Columns::no_columns, crate::proofs::Columns::more_columns))]
-fn value_columns(
+fn columns_of(
     alloc: Global,
     count: u32,
     size: u64,
-    value: &Value,
+    words: &[u64],
 ) -> Result<Vec<L<u64>>, AllocError>
-    ensures columns { IfOk result (λ columns. columns.items ≡ map (spec.column_words count size value.now) (range_with_len 0 size)) }
+    ensures columns { IfOk result (λ columns. columns.items ≡ map (spec.column_words count size words.now) (range_with_len 0 size)) }
     ensures lengths { IfOk result (λ columns. HaveLength count columns.items) }
 {
     let mut columns = Vec::new(alloc);
     for component in 0..size {
-        let words = column_words(alloc, count, size, value, component)?;
-        columns.push(L::of(words))?;
+        let column = column_words(alloc, count, size, words, component)?;
+        columns.push(L::of(column))?;
     }
     Ok(columns)
 }
@@ -266,8 +266,8 @@ fn set_columns(sets: &mut Sets, set: u32, first: u64, columns: Vec<L<u64>>)
     }
 }
 
-/// Gives a field of a set another value; where the set or one of the field's columns isn't there, it stays so. Out of
-/// memory nothing changes.
+/// Gives a field of a set other words, element after element, each its block row by row; where the set or one of the
+/// field's columns isn't there, it stays so. Out of memory nothing changes.
 #[tactic(auto, unfolding(crate::specs::Fields::with_field))]
 pub fn with_field(
     alloc: Global,
@@ -275,13 +275,13 @@ pub fn with_field(
     sets: &mut Sets,
     set: u32,
     field: u32,
-    value: &Value,
+    words: &[u64],
 ) -> Result<(), NoMemory>
-    ensures assigned { OnOk result (sets.new ≡ slice_set sets.old set (spec.with_field fields.now (set_at sets.old set) field value.now)) }
+    ensures assigned { OnOk result (sets.new ≡ slice_set sets.old set (spec.with_field fields.now (set_at sets.old set) field words.now)) }
     ensures unchanged { OnErr result (sets.new ≡ sets.old) }
 {
     let size = entries(block_of(fields, field));
-    match value_columns(alloc, count(sets, set), size, value) {
+    match columns_of(alloc, count(sets, set), size, words) {
         Ok(columns) => {
             set_columns(sets, set, first_column(fields, field), columns);
             Ok(())

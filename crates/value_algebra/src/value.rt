@@ -90,24 +90,28 @@ impl Value {
         self.word(0)
     }
 
-    /// The word of a row and a column, where a row has so many; 0 where there is none.
-    #[tactic(auto, using(std::proofs::lemmas::List::get_or_past))]
-    pub(crate) fn entry(&self, row: u64, columns: u64, column: u64) -> u64
-        ensures { result ≡ slice_index self.now.words (row * columns + column) }
-    {
-        let words = self.words.items();
-        let index = row as u128 * columns as u128 + column as u128;
-        if index < words.len() as u128 {
-            words[index as usize]
-        } else {
-            0
-        }
-    }
-
     /// The word of a row and a column; 0 where there is none.
     pub fn word_at(&self, row: usize, column: usize) -> u64
         ensures { result ≡ spec.word_at self.now row column }
     {
-        self.entry(row as u64, self.columns as u64, column as u64)
+        entry(
+            self.words.items(),
+            row as u64,
+            self.columns as u64,
+            column as u64,
+        )
+    }
+}
+
+/// The word of a row and a column, where a row has so many; 0 where there is none.
+#[tactic(auto, using(std::proofs::lemmas::List::get_or_past))]
+pub(crate) fn entry(words: &[u64], row: u64, columns: u64, column: u64) -> u64
+    ensures { result ≡ slice_index words.now (row * columns + column) }
+{
+    let index = row as u128 * columns as u128 + column as u128;
+    if index < words.len() as u128 {
+        words[index as usize]
+    } else {
+        0
     }
 }
