@@ -28,7 +28,7 @@ fn compared(op: CmpOp, a: u64, b: u64) -> bool
 }
 
 /// Whether a comparison holds, or its opposite where it is negated.
-fn held(negated: bool, op: CmpOp, a: u64, b: u64) -> bool
+pub fn held(negated: bool, op: CmpOp, a: u64, b: u64) -> bool
     ensures { result ≡ spec.held negated op a b }
 {
     if negated {

@@ -123,7 +123,11 @@ fn written(
 /// The total of terms; none where there are none.
 #[cycle(expression)]
 #[tactic(auto, using(crate::proofs::Chains::term_taken, crate::proofs::Chains::term_stopped, crate::proofs::Chains::terms_ended))]
-fn total(alloc: Global, terms: &[TypedTerm], scope: &Scope<'_>) -> Result<Option<Value>, Stopped<TrapKind>>
+fn total(
+    alloc: Global,
+    terms: &[TypedTerm],
+    scope: &Scope<'_>,
+) -> Result<Option<Value>, Stopped<TrapKind>>
     ensures { Means (spec.total (map (spec.term_of scope.now) terms.now)) result }
 {
     let mut total = None;
@@ -167,7 +171,11 @@ fn chain(
 /// What a product means.
 #[cycle(expression)]
 #[tactic(auto, unfolding(crate::specs::Expression::product))]
-fn product(alloc: Global, factors: &[TypedFactor], scope: &Scope<'_>) -> Result<Value, Stopped<TrapKind>>
+fn product(
+    alloc: Global,
+    factors: &[TypedFactor],
+    scope: &Scope<'_>,
+) -> Result<Value, Stopped<TrapKind>>
     ensures { Means (spec.product (map (spec.factor_of scope.now) factors.now)) result }
 {
     let product = chain(alloc, factors, scope)?;
@@ -177,7 +185,11 @@ fn product(alloc: Global, factors: &[TypedFactor], scope: &Scope<'_>) -> Result<
 /// A transposed value.
 #[cycle(expression)]
 #[tactic(auto, unfolding(crate::specs::Expression::transposed_part))]
-fn transposed_value(alloc: Global, value: &TypedExpr, scope: &Scope<'_>) -> Result<Value, Stopped<TrapKind>>
+fn transposed_value(
+    alloc: Global,
+    value: &TypedExpr,
+    scope: &Scope<'_>,
+) -> Result<Value, Stopped<TrapKind>>
     ensures { Means (spec.transposed_part (spec.part_of scope.now value.now)) result }
 {
     let value = meaning(alloc, value, scope)?;

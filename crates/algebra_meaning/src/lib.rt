@@ -12,11 +12,12 @@ mod scope;
 mod state;
 mod stopped;
 
-pub use conditions::holds;
+pub use conditions::{held, holds};
 pub use context::ElementContext;
 pub use contribution::{Contribution, Point};
 pub use expression::{meaning, meanings};
-pub use references::{end_of, value_at};
+pub use parts::block_in;
+pub use references::{end_in, end_of, over, value_at};
 pub use scope::Scope;
 pub use state::State;
 pub use stopped::{Stop, Stopped, Trapped};

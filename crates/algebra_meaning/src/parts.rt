@@ -97,7 +97,7 @@ pub(crate) fn last_value(alloc: Global, so_far: Option<(NodeType, Value)>) -> Va
 }
 
 /// The block of a type.
-pub(crate) fn block_in(value_type: NodeType) -> BlockShape
+pub fn block_in(value_type: NodeType) -> BlockShape
     ensures { result ≡ spec.block_in value_type }
 {
     match value_type {
@@ -108,7 +108,11 @@ pub(crate) fn block_in(value_type: NodeType) -> BlockShape
 }
 
 /// A number, or a trap where there is none.
-pub(crate) fn or_trap(alloc: Global, trap: TrapKind, word: Option<u64>) -> Result<Value, Stopped<TrapKind>>
+pub(crate) fn or_trap(
+    alloc: Global,
+    trap: TrapKind,
+    word: Option<u64>,
+) -> Result<Value, Stopped<TrapKind>>
     ensures { Means (spec.or_trap trap word) result }
 {
     match word {

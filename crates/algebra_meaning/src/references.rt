@@ -58,7 +58,7 @@ fn set_field(alloc: Global, scope: &Scope<'_>, set: u32, field: u32) -> Result<V
 
 /// The endpoint of an element of a set at a position; 0 where it has none there.
 #[tactic(auto, using(std::proofs::lemmas::List::get_or_past))]
-fn end_in(sets: &Sets, set: u32, element: u32, position: u64) -> u32
+pub fn end_in(sets: &Sets, set: u32, element: u32, position: u64) -> u32
     ensures { result ≡ spec.end_in (set_at sets.now set) element position }
 {
     if set < sets.len() && element < sets.count(set) && position < u64::from(sets.arity(set)) {
@@ -77,7 +77,7 @@ pub fn end_of(sets: &Sets, place: ElementContext, position: u64) -> u32
 
 /// The set in which the endpoints of a set lie; none where there is no such set.
 #[tactic(auto, using(std::proofs::lemmas::List::get_or_past))]
-fn over(sets: &Sets, set: u32) -> Option<u32>
+pub fn over(sets: &Sets, set: u32) -> Option<u32>
     ensures { result ≡ (set_at sets.now set).over }
 {
     if set < sets.len() {

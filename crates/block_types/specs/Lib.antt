@@ -3,3 +3,4 @@ pub mod Parts
 pub mod Readings
 pub mod Reserved
 pub mod Parameters
+pub mod WellDeclared

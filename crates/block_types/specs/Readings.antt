@@ -1,8 +1,7 @@
 -- What is asked of a typed program.
-use Rattle.std.specs.Prelude.{ℕ, ◌<◌, ◌≤◌, ◌^◌, List, [], length, take, position, slice_get, Option, Some, None}
+use Rattle.std.specs.Prelude.{ℕ, ◌<◌, ◌^◌, List, [], length, take, position, slice_get, Option, Some, None}
 use Rattle.std.specs.Option.{option_and_then}
 use Rattle.std.specs.Str.{bytes_eq}
-use Rattle.vocabulary.specs.declared.limits.TheConstants.{MOST_COLUMNS}
 use Rattle.type_rules.specs.declared.types.BlockShape.{BlockShape}
 use Rattle.type_rules.specs.declared.types.BlockShape.TheVariants.{Number, Vector, Matrix}
 use Rattle.typed_tree.specs.declared.program.ElementType.{ElementType}
@@ -60,9 +59,8 @@ field_shape set fields number field = record {
   scale = field.scale;
 }
 
--- numbers are stated in 32 bits, and each set's columns are within their limit
+-- numbers are stated in 32 bits
 pub record Countable (program : TypedProgram) : Type 0 where
   pub sets : length program.sets < 2 ^ 32
   pub functions : length program.functions < 2 ^ 32
   pub variables : length program.variables < 2 ^ 32
-  pub columns : (set : ℕ) → columns_of (set_fields program set) ≤ MOST_COLUMNS

@@ -3,6 +3,7 @@
 
 mod elements;
 mod functions;
+mod laws;
 mod parameters;
 mod program;
 mod readings;
@@ -10,6 +11,7 @@ mod rules;
 mod sets;
 mod typed;
 
+pub use laws::well_declared_law;
 pub use program::check;
 pub use readings::FieldShape;
 pub use typed::Typed;

@@ -9,9 +9,11 @@ ghost use Rattle.typed_tree.specs.MainProcedure as main;
 ghost use Rattle.typed_tree.specs.Typed as whole;
 ghost use Rattle.typing_laws.specs.ProgramLaws.{ProgramLaws};
 ghost use Rattle.block_types.specs.Parts as parts;
+ghost use Rattle.block_types.specs.WellDeclared.{WellDeclaredLaw};
 
 use crate::elements::element_declaration;
 use crate::functions::function_declaration;
+use crate::laws::well_declared_law;
 use crate::sets::set_declaration;
 use crate::typed::Typed;
 use main_types::main_statements;
@@ -136,8 +138,10 @@ fn parts_of(alloc: Global, tree: &Program) -> Result<Parts, CheckFault>
 pub fn check(alloc: Global, program: Lowered) -> Result<Typed, CheckFault>
     ensures answered { Answers Memory (whole.typed program) result }
     ensures judged { ProgramLaws }
+    ensures declared { WellDeclaredLaw }
 {
     program_typing_law();
+    well_declared_law();
     let parts = parts_of(alloc, program.program())?;
     let declarations = parts.declarations;
     Typed::of(

@@ -15,6 +15,7 @@ ghost use Rattle.typed_tree.specs.contracts.main_procedure.MainStmt as main_stat
 ghost use Rattle.typed_tree.specs.Declarations.{columns_of};
 ghost use Rattle.typed_tree.specs.Nodes.{program_nodes};
 ghost use Rattle.block_types.specs.Readings as spec;
+ghost use Rattle.block_types.specs.WellDeclared.{IsWellDeclared, WellDeclared, arity};
 
 use crate::readings::FieldShape;
 use sim_syntax::Program;
@@ -43,7 +44,7 @@ impl Model for Typed {
 
     ghost view = { λ typed. typed.program };
 
-    ghost invariant = { λ typed. (typed.nodes ≡ program_nodes typed.program) × spec.Countable typed.program };
+    ghost invariant = { λ typed. (typed.nodes ≡ program_nodes typed.program) × spec.Countable typed.program × WellDeclared typed.program };
 }
 
 /// The rows of a block.
@@ -81,19 +82,6 @@ fn set_fields(program: &TypedProgram, set: usize) -> &[TypedField]
     }
 }
 
-/// Whether the columns of each set are within their limit.
-#[tactic(auto, unfolding(typed_measures::specs::Limited::limited))]
-fn are_columns_few(program: &TypedProgram) -> bool
-    ensures { OnTrue result ((set : ℕ) → columns_of (spec.set_fields program.now set) ≤ MOST_COLUMNS) }
-{
-    for set in 0..program.sets.items().len() {
-        if columns_of(set_fields(program, set)) > u64::from(MOST_COLUMNS) {
-            return false;
-        }
-    }
-    true
-}
-
 /// Whether numbers can be stated in 32 bits.
 fn is_small(len: usize) -> bool
     ensures { OnTrue result (len < 2 ^ 32) }
@@ -108,7 +96,6 @@ fn is_countable(program: &TypedProgram) -> bool
     is_small(program.sets.items().len())
         && is_small(program.functions.items().len())
         && is_small(program.variables.items().len())
-        && are_columns_few(program)
 }
 
 /// The place of a set by its name.
@@ -153,6 +140,7 @@ fn first_column(fields: &[TypedField], field: usize) -> u32
 impl Typed {
     /// A program that was typed, with the table of its nodes. Numbers that don't fit are out of memory.
     pub(crate) fn of(alloc: Global, program: TypedProgram) -> Result<Typed, CheckFault>
+        requires { WellDeclared program }
         ensures { MatchResult result (λ typed. typed ≡ program) (λ fault. fault ≡ Memory) }
     {
         if !is_countable(&program) {
@@ -164,7 +152,8 @@ impl Typed {
 
     /// The typed program.
     pub fn typed_program(&self) -> &TypedProgram
-        ensures { result.now ≡ self.now }
+        ensures value { result.now ≡ self.now }
+        ensures declared { WellDeclared self.now }
     {
         &self.program
     }
@@ -207,6 +196,15 @@ impl Typed {
         ensures { result ≡ spec.over self.now set }
     {
         self.program.sets.items()[set as usize].shape.over
+    }
+
+    /// How many endpoints each element of a set has; 0 for a vertex set.
+    pub fn arity(&self, set: u32) -> u32
+        requires { set < length self.now.sets }
+        ensures value { result ≡ arity self.now set }
+        ensures declared { IsWellDeclared self.now set }
+    {
+        self.program.sets.items()[set as usize].shape.arity
     }
 
     /// The first variable of the main procedure with this name.
@@ -253,7 +251,15 @@ impl Typed {
         self.program.variables.items()[variable as usize].value_type
     }
 
+    /// The fields of the elements of a set; none where there is no such set.
+    pub fn fields(&self, set: u32) -> &[TypedField]
+        ensures { result.now ≡ spec.set_fields self.now set }
+    {
+        set_fields(&self.program, set as usize)
+    }
+
     /// A field of the elements of a set.
+    #[tactic(auto, using(crate::proofs::ProgramsKept::columns_few))]
     pub fn field(&self, set: u32, field: u32) -> FieldShape
         requires { field < length (spec.set_fields self.now set) }
         ensures { Some result ≡ option_map (spec.field_shape set (spec.set_fields self.now set) field) (slice_get (spec.set_fields self.now set) field) }

@@ -1,10 +1,8 @@
-//! The tests of the calls that take a program's text to its tree, and of which trees run: what no public clause says.
+//! The tests of the calls that take a program's text to its tree: what no public clause says.
 //!
 //! Each module is about one subject.
 #![tactic(auto)]
 
-#[cfg(test)]
-mod forms;
 #[cfg(test)]
 mod lexing;
 #[cfg(test)]
@@ -13,5 +11,3 @@ mod parsing;
 mod places;
 #[cfg(test)]
 mod printing;
-#[cfg(test)]
-mod read_texts;

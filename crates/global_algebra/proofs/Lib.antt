@@ -1,1 +1,4 @@
-pub mod AddingSums
+pub mod Items
+pub mod Order
+pub mod Targets
+pub mod Loops

@@ -1,6 +1,2 @@
-pub mod Sums
-pub mod Element
-pub mod Assembled
-pub mod Adding
-pub mod Run
-pub mod Fits
+pub mod Ending
+pub mod Turns

@@ -1,10 +1,15 @@
-//! Programs over several sets: their tree, with resolved names, and what they mean. An assignment replaces a whole
-//! field by its right side; a map assembles, over the elements of an edge set, what each contributes to its
-//! endpoints.
+//! Runs typed programs by the algebra: statement after statement, each matrix dense. How the results of a map are
+//! computed is a part that is handed in; the plain run takes the one that follows the definition.
 #![tactic(auto)]
 
-mod adding;
-mod program;
+mod assignment;
+mod ending;
+mod maps;
+mod plain_run;
+mod right_sides;
+mod statements;
 
-pub use adding::adding_law;
-pub use program::{Expr, Function, Program, SetDeclaration, Statement, Step, SumTerm, Term};
+pub use ending::Ending;
+pub use maps::{Maps, PlainMaps};
+pub use plain_run::{PlainFault, plain};
+pub use statements::run;

@@ -1,4 +1,1 @@
-pub mod Blocks
 pub mod Elements
-pub mod Scopes
-pub mod Steps

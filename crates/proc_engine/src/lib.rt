@@ -1,9 +1,7 @@
-//! Runs programs over sets, on one thread and in the order of the elements.
+//! Runs typed programs: as the plain run does, but for maps, whose contributions are added as they come.
 #![tactic(auto)]
 
-mod assembly;
-mod assignment;
 mod execution;
-mod expression;
+mod maps;
 
 pub use execution::execute;

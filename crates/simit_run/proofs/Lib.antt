@@ -1,7 +1,7 @@
 pub mod StagesShown
-pub mod Runnable
 pub mod Reading
 pub mod SetsRead
+pub mod Outcomes
 pub mod Texts
 pub mod Pieces
 pub mod WordsRead

@@ -4,7 +4,7 @@ use Rattle.hypergraph.specs.SetValue.{SetValue}
 use Rattle.hypergraph.specs.Sets.{set_at}
 use Rattle.set_tables.specs.Output.{table_text}
 use Rattle.set_tables.specs.declared.schema.Schema.{Schema}
-use Rattle.simit_run.specs.Answer.{texts_of}
+use Rattle.simit_run.specs.Output.{texts_of}
 use Rattle.simit_run.specs.TableContracts.{schema_at}
 
 -- one table more

@@ -9,6 +9,10 @@ use Rattle.simit_run.specs.Command.{Command, command_of, file_name}
 use Rattle.simit_run.specs.ProgramText.{offset_of}
 use Rattle.simit_run.specs.Stage.{limit_of}
 use Rattle.vocabulary.specs.declared.limits.TheConstants.{MOST_ELEMENTS}
+use Rattle.ring_words.specs.declared.trap.TrapKind.{TrapKind}
+use Rattle.ring_words.specs.declared.trap.TrapKind.TheVariants as trap
+use Rattle.algebra_meaning.specs.declared.stopped.Stop.{Stop}
+use Rattle.algebra_meaning.specs.declared.stopped.Stop.TheVariants as stop
 use Rattle.ring_words.specs.declared.cells.CellFault.{CellFault}
 use Rattle.ring_words.specs.declared.cells.CellFault.TheVariants as cell
 use Rattle.set_tables.specs.declared.faults.TableFault.{TableFault}
@@ -17,6 +21,8 @@ use Rattle.sim_lexer.specs.declared.token.LexFault.{LexFault}
 use Rattle.sim_lexer.specs.declared.token.LexFault.TheVariants as fault
 use Rattle.type_rules.specs.declared.types.TypeKind.{TypeKind}
 use Rattle.type_rules.specs.declared.types.TypeKind.TheVariants as kind
+use Rattle.dense_sizes.specs.declared.limit.TheConstants.{MOST_DENSE_WORDS}
+use Rattle.simit_run.specs.declared.limits.TheConstants.{USUAL_TURNS}
 use Rattle.simit_run.specs.declared.role.FileRole.{FileRole}
 use Rattle.simit_run.specs.declared.role.FileRole.TheVariants as role
 use Rattle.simit_run.specs.declared.status.Status.{Status}
@@ -38,6 +44,10 @@ names_of (Some command) role = file_name command role
 
 -- ---- statuses
 
+abbrev pub stop_status : Stop → Status
+stop_status (stop.Trap line element kind) = status.Trap
+stop_status stop.Spent = status.Spent
+
 abbrev pub refusal_status : Refusal → Status
 refusal_status refusal.Words = status.Refused
 refusal_status (refusal.FileLimit role) = status.Limit
@@ -47,6 +57,8 @@ refusal_status (refusal.IllTyped line kind) = status.Refused
 refusal_status refusal.NotYet = status.Refused
 refusal_status (refusal.FileCount files sets) = status.Refused
 refusal_status (refusal.Table number fault) = status.Refused
+refusal_status refusal.DenseWords = status.Limit
+refusal_status (refusal.Stopped stop) = stop_status stop
 
 abbrev pub status_of : Failure → Status
 status_of Memory = status.Memory
@@ -121,6 +133,22 @@ table_note file (table.Endpoint row column) = cell_note file row column (codes "
 table_note file table.TooManyRows = file_note file (codes ": more than " ∷ decimal MOST_ELEMENTS ∷ codes " rows\n" ∷ [])
 table_note file table.Memory = file_note file (codes ": no memory\n" ∷ [])
 
+-- why a run traps
+abbrev pub trap_words : TrapKind → List ℕ
+trap_words trap.DivisionByZero = codes ": division by zero\n"
+trap_words trap.NegativeRoot = codes ": root of a negative number\n"
+trap_words trap.Assertion = codes ": assertion failed\n"
+
+-- the note line of a trap, by the line of its statement and, in a map, the element
+abbrev pub trap_note : ℕ → Option ℕ → TrapKind → List ℕ
+trap_note line None kind = concat (codes "trap at line " ∷ decimal line ∷ trap_words kind ∷ [])
+trap_note line (Some element) kind = concat (codes "trap at line " ∷ decimal line ∷ codes ", element " ∷ decimal element ∷ trap_words kind ∷ [])
+
+-- the note line of a run that stops before its end
+abbrev pub stop_note : Stop → List ℕ
+stop_note (stop.Trap line element kind) = trap_note line element kind
+stop_note stop.Spent = concat (codes "spent: " ∷ decimal USUAL_TURNS ∷ codes " turns\n" ∷ [])
+
 -- the note line of a refusal, by the names of the files
 abbrev pub refusal_note : (FileRole → List ℕ) → Refusal → List ℕ
 refusal_note names refusal.Words = usage_note
@@ -133,6 +161,8 @@ refusal_note names refusal.NotYet = not_yet_note
 refusal_note names (refusal.FileCount files sets) =
     concat (codes "refused: " ∷ decimal files ∷ codes " files for " ∷ decimal sets ∷ codes " sets\n" ∷ [])
 refusal_note names (refusal.Table number fault) = table_note (names (role.Table number)) fault
+refusal_note names refusal.DenseWords = concat (codes "limit: dense words over " ∷ decimal MOST_DENSE_WORDS ∷ codes "\n" ∷ [])
+refusal_note names (refusal.Stopped stop) = stop_note stop
 
 -- the note line of an answer that is no output
 abbrev pub note_of : (FileRole → List ℕ) → Failure → List ℕ

@@ -2,6 +2,7 @@ pub mod Status
 pub mod Command
 pub mod Stage
 pub mod ProgramText
+pub mod Output
 pub mod Answer
 pub mod Ending
 pub mod Shown

@@ -1,6 +1,5 @@
--- Which program a text states.
+-- Which typed program a text states.
 use Rattle.std.specs.Prelude.{ℕ, List, drop, Result, Ok, Err, if◌then◌else◌}
-use Rattle.std.specs.Option.{ok_or}
 use Rattle.std.specs.Result.{result_map_both}
 use Rattle.vocabulary.specs.Answers.{◌>>=◌}
 use Rattle.sim_lexer.specs.Tokens.{line_at, tokens}
@@ -15,8 +14,6 @@ use Rattle.typed_tree.specs.Typed.{typed}
 use Rattle.typed_tree.specs.declared.program.TypedProgram.{TypedProgram}
 use Rattle.typed_tree.specs.declared.fault.CheckFault.{CheckFault}
 use Rattle.typed_tree.specs.declared.fault.CheckFault.TheVariants as check
-use Rattle.program_forms.specs.Resolved.{resolved}
-use Rattle.global_algebra.specs.declared.program.Program.{Program}
 use Rattle.simit_run.specs.declared.failure.Refusal.{Refusal}
 use Rattle.simit_run.specs.declared.failure.Refusal.TheVariants.{Lexical, Syntax, IllTyped, NotYet}
 
@@ -60,9 +57,3 @@ typed_of source = do
   tree ← tree_of source
   plain ← lowered tree
   typing (typed plain)
-
--- the program that a text states, or the first reason why it states none: it has no types, or is of a form that doesn't run yet
-unfoldable pub program_of : List ℕ → Result Program Refusal
-program_of source = do
-  checked ← typed_of source
-  ok_or (resolved checked.tree) NotYet

@@ -1,36 +1,48 @@
 -- What the calls inside this crate know of a program's sets and their tables.
 use Rattle.std.specs.Prelude.{◌≡◌, ◌<◌, ◌≤◌, ◌+◌, ℕ, List, [], All, length, slice_index_or}
-use Rattle.vocabulary.specs.declared.limits.TheConstants.{MOST_COLUMNS, MOST_SETS}
+use Rattle.vocabulary.specs.declared.limits.TheConstants.{MOST_COLUMNS}
 use Rattle.hypergraph.specs.SetValue.{SetValue, EndpointsBelow}
 use Rattle.hypergraph.specs.Sets.{endpoint_bound, set_at}
+use Rattle.typed_tree.specs.Declarations.{columns_of}
+use Rattle.typed_tree.specs.declared.program.TypedProgram.{TypedProgram}
+use Rattle.block_types.specs.Readings.{over, set_fields}
+use Rattle.block_types.specs.WellDeclared.{WellDeclared, arity}
 use Rattle.set_tables.specs.Output.{table_text}
 use Rattle.set_tables.specs.Schema.{Fits, IsSchema}
 use Rattle.set_tables.specs.declared.schema.Schema.{Schema}
-use Rattle.global_algebra.specs.Fits.{IsAsDeclared, IsWellFormed, declaration_at}
-use Rattle.global_algebra.specs.declared.program.Program.{Program}
-use Rattle.global_algebra.specs.declared.program.SetDeclaration.{SetDeclaration}
-use Rattle.simit_run.specs.Answer.{schema_of}
+use Rattle.write_back.specs.Schemas.{schema_of}
 
 -- a declared set whose table can be read
-pub record IsReadable (declared : SetDeclaration) : Type 0 where
-  pub schema : IsSchema (schema_of declared)
-  pub few_columns : declared.arity + length declared.fields ≤ MOST_COLUMNS
+pub record IsReadable (program : TypedProgram) (number : ℕ) : Type 0 where
+  pub schema : IsSchema (schema_of program number)
+  pub few_columns : (schema_of program number).arity + length (schema_of program number).columns ≤ MOST_COLUMNS
+  pub columns : length (schema_of program number).columns ≡ columns_of (set_fields program number)
 
 -- a program whose tables can be read, and that can be run on their sets
-pub record IsRunnable (program : Program) : Type 0 where
-  pub well_formed : IsWellFormed program
-  pub few_sets : length program.sets ≤ MOST_SETS
-  pub readable : All IsReadable program.sets
+pub record IsRunnable (program : TypedProgram) : Type 0 where
+  pub declared : WellDeclared program
+  pub readable : (number : ℕ) → number < length program.sets → IsReadable program number
+
+-- a set is as the one of a number is declared
+pub record IsAsDeclared (program : TypedProgram) (number : ℕ) (set : SetValue) : Type 0 where
+  pub same_arity : set.arity ≡ arity program number
+  pub same_over : set.over ≡ over program number
+  pub columns : length set.columns ≡ columns_of (set_fields program number)
 
 -- a set that was read: it is as declared, and its endpoints are elements of a set that was read
-pub record IsRead (program : Program) (sets : List SetValue) (number : ℕ) : Type 0 where
-  pub declared : IsAsDeclared (set_at sets number) (declaration_at program.sets number)
+pub record IsRead (program : TypedProgram) (sets : List SetValue) (number : ℕ) : Type 0 where
+  pub declared : IsAsDeclared program number (set_at sets number)
   pub endpoints_below : EndpointsBelow (set_at sets number) (endpoint_bound sets number)
 
 -- the sets that were read so far are the first ones of the program
-pub record AreRead (program : Program) (sets : List SetValue) : Type 0 where
+pub record AreRead (program : TypedProgram) (sets : List SetValue) : Type 0 where
   pub few : length sets ≤ length program.sets
   pub each : (number : ℕ) → number < length sets → IsRead program sets number
+
+-- sets are those of a program: as many, each as it is declared
+pub record SetsFit (program : TypedProgram) (sets : List SetValue) : Type 0 where
+  pub as_many : length sets ≡ length program.sets
+  pub each : (number : ℕ) → number < length sets → IsAsDeclared program number (set_at sets number)
 
 -- the schema of a number; one without columns where there is none
 abbrev pub schema_at : List Schema → ℕ → Schema

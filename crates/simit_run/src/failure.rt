@@ -1,11 +1,13 @@
 //! Why the program has no output.
 
 use crate::role::FileRole;
+use algebra_meaning::Stop;
 use set_tables::TableFault;
 use sim_lexer::LexFault;
 use type_rules::TypeKind;
 
-/// What is wrong with the words or with a file that was read, in the order in which it is judged.
+/// Why an answer is no output although all was read that it asked for: what is wrong with the words or with a file, or
+/// why the run stops. In the order in which it is judged.
 #[derive(Clone, Copy, Debug, PartialEq, Eq)]
 pub enum Refusal {
     /// The words are no command.
@@ -18,12 +20,16 @@ pub enum Refusal {
     Syntax { line: u32, token: u32 },
     /// A node of this line has no type.
     IllTyped { line: u32, kind: TypeKind },
-    /// The program is of a form that doesn't run yet.
+    /// An index expression stands in the program; those don't run yet.
     NotYet,
     /// There are so many tables for another number of sets.
     FileCount { files: usize, sets: usize },
     /// The table of the set of this number states no set.
     Table { set: u32, fault: TableFault },
+    /// The dense matrices of the run take too many words.
+    DenseWords,
+    /// The run stops before its end.
+    Stopped(Stop),
 }
 
 /// Why there is no output.
@@ -33,6 +39,6 @@ pub enum Failure {
     Memory,
     /// The file can't be read.
     ReadFault(FileRole),
-    /// The words or a file are refused.
+    /// The words or a file are refused, or the run stops.
     Refused(Refusal),
 }

@@ -1,8 +1,6 @@
-//! From the program's file to the program: its tokens, the tree that they derive, its types, and the program that the
-//! tree states.
+//! From the program's file to the typed program: its tokens, the tree that they derive, and its types.
 
 ghost use Rattle.std.specs.Prelude.{◌≡◌, ◌≤◌, All, IfOk, drop, length};
-ghost use Rattle.std.specs.Option.{ok_or};
 ghost use Rattle.vocabulary.specs.Answers.{Answers};
 ghost use Rattle.simit_io.specs.Inputs.{IsMissing, Rose};
 ghost use Rattle.sim_lexer.specs.Tokens.{EndsOnce, IsSpelled, LiesIn, tokens};
@@ -10,20 +8,16 @@ ghost use Rattle.sim_lexer.specs.Words.{words_of};
 ghost use Rattle.sim_grammar.specs.ReadProgram.{program_in};
 ghost use Rattle.sim_grammar.specs.Rule.{line_of};
 ghost use Rattle.typed_tree.specs.Typed.{typed};
-ghost use Rattle.program_forms.specs.Resolved.{resolved};
 ghost use Rattle.simit_run.specs.Answer as spec;
 ghost use Rattle.simit_run.specs.ProgramText as text;
 ghost use Rattle.simit_run.specs.Shown.{Shows};
 ghost use Rattle.simit_run.specs.Stage.{refused};
-ghost use Rattle.simit_run.specs.TableContracts.{IsRunnable};
 
 use crate::failure::{Failure, Refusal};
 use crate::file::read_file;
 use crate::note::offset_of;
 use crate::role::FileRole;
 use block_types::{Typed, check};
-use global_algebra::Program;
-use program_forms::{ResolveFault, resolve};
 use sim_lexer::{LexFault, Token, Tokens, lex, line_at};
 use sim_parser::{ParseFault, parse};
 use sim_syntax::Lowered;
@@ -125,45 +119,15 @@ fn typed_in(alloc: Global, source: &[u8]) -> Result<Typed, Failure>
     Ok(typed)
 }
 
-/// The program that a typed program's tree states.
-#[tactic(auto, using(crate::proofs::Runnable::is_runnable))]
-fn resolved_of(alloc: Global, typed: &Typed) -> Result<Program, Failure>
-    ensures value { Answers Failure.Memory (refused (ok_or (resolved typed.now.tree) Refusal.NotYet)) result }
-    ensures runnable { IfOk result IsRunnable }
-{
-    match resolve(alloc, typed.program()) {
-        Ok(program) => Ok(program),
-        Err(ResolveFault::Memory) => Err(Failure::Memory),
-        Err(ResolveFault::OtherForm) => Err(Failure::Refused(Refusal::NotYet)),
-    }
-}
-
-/// The program that a text states.
-#[tactic(auto, unfolding(crate::specs::ProgramText::program_of))]
-fn program_of(alloc: Global, source: &[u8]) -> Result<Program, Failure>
-    requires { length source.now ≤ MOST_PROGRAM_BYTES }
-    ensures states { Answers Failure.Memory (refused (text.program_of source.now)) result }
-    ensures runnable { IfOk result IsRunnable }
-{
-    let typed = typed_in(alloc, source)?;
-    let program = resolved_of(alloc, &typed)?;
-    Ok(program)
-}
-
-/// The program that the file of a name states.
-pub fn read_program<I: Inputs>(
-    alloc: Global,
-    inputs: &mut I,
-    name: &str,
-) -> Result<Program, Failure>
+/// The typed program that the file of a name states.
+pub fn read_program<I: Inputs>(alloc: Global, inputs: &mut I, name: &str) -> Result<Typed, Failure>
     ensures shows { Shows (λ program. program) (I.holds inputs.old) (Rose (I.faults inputs.old) (I.faults inputs.new))
         (spec.program_stage name.now) result }
-    ensures runnable { IfOk result IsRunnable }
     ensures missing { IsMissing (I.holds inputs.old) name.now → result ≡ Err (Failure.ReadFault FileRole.Program) }
     ensures same_files { I.holds inputs.new ≡ I.holds inputs.old }
     ensures counted { I.faults inputs.old ≤ I.faults inputs.new }
 {
     let source = read_file(alloc, inputs, name, FileRole::Program)?;
-    let program = program_of(alloc, &source)?;
+    let program = typed_in(alloc, &source)?;
     Ok(program)
 }

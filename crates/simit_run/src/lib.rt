@@ -6,6 +6,7 @@ mod command;
 mod failure;
 mod file;
 mod front;
+mod limits;
 mod note;
 mod output;
 mod role;

@@ -4,18 +4,23 @@ ghost use Rattle.std.specs.Prelude.{◌≡◌, ◌≤◌, [], ◌∷◌, map, co
 ghost use Rattle.std.specs.List.{concat};
 ghost use Rattle.simit_io.specs.Inputs.{Rose};
 ghost use Rattle.simit_run.specs.Command.{file_name};
-ghost use Rattle.simit_run.specs.Ending.{PutsNote, cell_note, cell_words, file_note, kind_words, lexical_words, line_note, memory_note, note_of, place_note, refusal_note, row_note, table_note, usage_note, write_fault_note};
+ghost use Rattle.simit_run.specs.Ending.{PutsNote, cell_note, cell_words, file_note, kind_words, lexical_words, line_note, memory_note, note_of, place_note, refusal_note, row_note, stop_note, table_note, trap_note, trap_words, usage_note, write_fault_note};
 ghost use Rattle.vocabulary.specs.declared.limits.TheConstants.{MOST_ELEMENTS};
 ghost use Rattle.simit_run.specs.ProgramText.{offset_of};
+ghost use Rattle.dense_sizes.specs.declared.limit.TheConstants.{MOST_DENSE_WORDS};
+ghost use Rattle.simit_run.specs.declared.limits.TheConstants.{USUAL_TURNS};
 ghost use Rattle.simit_run.specs.Shown.{shown};
 ghost use Rattle.simit_run.specs.Stage as stage;
 
 use crate::command::Command;
 use crate::failure::{Failure, Refusal};
 use crate::file::limit_of;
+use crate::limits::USUAL_TURNS;
 use crate::role::FileRole;
+use algebra_meaning::Stop;
+use dense_sizes::MOST_DENSE_WORDS;
 use itoa::Buffer;
-use ring_words::CellFault;
+use ring_words::{CellFault, TrapKind};
 use set_tables::TableFault;
 use sim_lexer::LexFault;
 use simit_io::{Sink, put_all, putting_law};
@@ -270,6 +275,75 @@ fn put_table_fault<N: Sink>(notes: &mut N, file: &str, fault: TableFault)
     }
 }
 
+/// Puts the line of dense matrices with too many words.
+fn put_dense_words<N: Sink>(notes: &mut N)
+    ensures note { PutsNote (N.written notes.old) (N.written notes.new) (Rose (N.faults notes.old) (N.faults notes.new))
+        (concat (codes "limit: dense words over " ∷ decimal MOST_DENSE_WORDS ∷ codes "\n" ∷ [])) }
+    ensures counted { N.faults notes.old ≤ N.faults notes.new }
+{
+    let mut most = Buffer::new();
+    put_three(
+        notes,
+        "limit: dense words over ",
+        most.format(MOST_DENSE_WORDS),
+        "\n",
+    );
+}
+
+/// Why a run traps.
+fn trap_words(kind: TrapKind) -> &'static str
+    ensures { result.now ≡ trap_words kind }
+{
+    match kind {
+        TrapKind::DivisionByZero => ": division by zero\n",
+        TrapKind::NegativeRoot => ": root of a negative number\n",
+        TrapKind::Assertion => ": assertion failed\n",
+    }
+}
+
+/// Puts the line of a trap.
+fn put_trap<N: Sink>(notes: &mut N, line: u32, element: Option<u32>, kind: TrapKind)
+    ensures note { PutsNote (N.written notes.old) (N.written notes.new) (Rose (N.faults notes.old) (N.faults notes.new)) (trap_note line element kind) }
+    ensures counted { N.faults notes.old ≤ N.faults notes.new }
+{
+    let words = trap_words(kind);
+    let mut of_line = Buffer::new();
+    let line = of_line.format(line);
+    match element {
+        None => put_three(notes, "trap at line ", line, words),
+        Some(element) => {
+            let mut of_element = Buffer::new();
+            let element = of_element.format(element);
+            put_five(notes, "trap at line ", line, ", element ", element, words);
+        }
+    }
+}
+
+/// Puts the line of turns that are spent.
+fn put_spent<N: Sink>(notes: &mut N)
+    ensures note { PutsNote (N.written notes.old) (N.written notes.new) (Rose (N.faults notes.old) (N.faults notes.new))
+        (concat (codes "spent: " ∷ decimal USUAL_TURNS ∷ codes " turns\n" ∷ [])) }
+    ensures counted { N.faults notes.old ≤ N.faults notes.new }
+{
+    let mut turns = Buffer::new();
+    put_three(notes, "spent: ", turns.format(USUAL_TURNS), " turns\n");
+}
+
+/// Puts the line of a run that stops before its end.
+fn put_stop<N: Sink>(notes: &mut N, stop: Stop)
+    ensures note { PutsNote (N.written notes.old) (N.written notes.new) (Rose (N.faults notes.old) (N.faults notes.new)) (stop_note stop) }
+    ensures counted { N.faults notes.old ≤ N.faults notes.new }
+{
+    match stop {
+        Stop::Trap {
+            line,
+            element,
+            kind,
+        } => put_trap(notes, line, element, kind),
+        Stop::Spent => put_spent(notes),
+    }
+}
+
 /// Puts the line of a refusal.
 fn put_refusal<N: Sink>(notes: &mut N, command: Command<'_>, refusal: Refusal)
     ensures note { PutsNote (N.written notes.old) (N.written notes.new) (Rose (N.faults notes.old) (N.faults notes.new)) (refusal_note (file_name (shown command.entry)) refusal) }
@@ -294,6 +368,8 @@ fn put_refusal<N: Sink>(notes: &mut N, command: Command<'_>, refusal: Refusal)
         Refusal::Table { set, fault } => {
             put_table_fault(notes, command.file_name(FileRole::Table(set)), fault);
         }
+        Refusal::DenseWords => put_dense_words(notes),
+        Refusal::Stopped(stop) => put_stop(notes, stop),
     }
 }
 

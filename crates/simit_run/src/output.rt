@@ -18,7 +18,7 @@ pub struct Output {
 
 impl Model for Output {
     ghost use Rattle.std.specs.Prelude.{ℕ, List, vec_capacity};
-    ghost use Rattle.simit_run.specs.Answer.{texts_of};
+    ghost use Rattle.simit_run.specs.Output.{texts_of};
     ghost use Rattle.simit_run.specs.TableContracts.{IsWritable};
 
     ghost Value = { List ℕ };
@@ -32,7 +32,7 @@ impl Output {
     ghost use Rattle.std.specs.Prelude.{◌≡◌, ◌≤◌, IfOk, OnOk, OnErr};
     ghost use Rattle.simit_io.specs.Inputs.{Rose};
     ghost use Rattle.simit_io.specs.Sink.{Puts, PutsPrefix};
-    ghost use Rattle.simit_run.specs.Answer.{texts_of};
+    ghost use Rattle.simit_run.specs.Output.{texts_of};
     ghost use Rattle.simit_run.specs.TableContracts.{HaveTables};
 
     /// The output of sets with their schemas. All the memory that it ever takes is taken here.

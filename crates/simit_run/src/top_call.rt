@@ -3,22 +3,34 @@
 ghost use Rattle.std.specs.Prelude.{◌≡◌, ◌≢◌, ◌≤◌, IfSome, IfNone, Some, None, map, string_bytes};
 ghost use Rattle.simit_io.specs.Inputs.{Rose, IsMissing};
 ghost use Rattle.simit_run.specs.Command as stated;
-ghost use Rattle.simit_run.specs.Ending.{Ending, IsShown, MayEnd, PutsNote, memory_note, refusal_status, status_of, usage_note, write_fault_note};
+ghost use Rattle.simit_run.specs.Ending.{Ending, IsShown, MayEnd, PutsNote, memory_note, refusal_status, status_of, stop_status, usage_note, write_fault_note};
 
 use crate::answering::answer;
 use crate::command::read_words;
 use crate::failure::{Failure, Refusal};
 use crate::note::{put_note, put_usage, put_write_fault};
 use crate::status::Status;
+use algebra_meaning::Stop;
 use simit_io::{Failed, Inputs, Sink, putting_law};
 use std::alloc::Global;
+
+/// The status of a run that stops before its end.
+fn stop_status(stop: Stop) -> Status
+    ensures { result ≡ stop_status stop }
+{
+    match stop {
+        Stop::Trap { .. } => Status::Trap,
+        Stop::Spent => Status::Spent,
+    }
+}
 
 /// The status of a refusal.
 fn refusal_status(refusal: Refusal) -> Status
     ensures { result ≡ refusal_status refusal }
 {
     match refusal {
-        Refusal::FileLimit(_) => Status::Limit,
+        Refusal::FileLimit(_) | Refusal::DenseWords => Status::Limit,
+        Refusal::Stopped(stop) => stop_status(stop),
         Refusal::Words
         | Refusal::Lexical { .. }
         | Refusal::Syntax { .. }
@@ -43,8 +55,8 @@ fn status_of(failure: Failure) -> Status
 /// Runs the command that the words after the program's own name state.
 ///
 /// The words are `run PROGRAM SETS..`. The program's file is read and judged before a table's file is opened,
-/// and each table before the next; nothing is put to `out` before the run has ended. Where there is no output,
-/// a line that says why is put to `notes`.
+/// and each table before the next; nothing is put to `out` before the run has ended. Where there is no output, be it that
+/// something is refused, that the run traps or that its turns are spent, a line that says why is put to `notes`.
 pub fn run<I: Inputs, O: Sink, N: Sink>(
     alloc: Global,
     words: &[String],

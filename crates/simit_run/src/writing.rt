@@ -3,7 +3,7 @@
 ghost use Rattle.std.specs.Prelude.{◌≤◌, OnOk, OnErr, vec_capacity};
 ghost use Rattle.simit_io.specs.Inputs.{Rose};
 ghost use Rattle.simit_io.specs.Sink.{Puts, PutsPrefix};
-ghost use Rattle.simit_run.specs.Answer.{texts_of};
+ghost use Rattle.simit_run.specs.Output.{texts_of};
 ghost use Rattle.simit_run.specs.TableContracts.{HaveTables, IsLongest};
 
 use hypergraph::Sets;

@@ -12,6 +12,8 @@ mod limits;
 #[cfg(test)]
 mod programs;
 #[cfg(test)]
+mod runs;
+#[cfg(test)]
 mod springs;
 #[cfg(test)]
 mod words;

@@ -89,8 +89,8 @@ fn one_program_in_many_layouts(rt: HostRuntime) -> Result<(), Fail> {
 }
 
 /// Programs that are refused, with their notes: bytes that begin no token, a name that is too long, brackets that are too
-/// deep; tokens without a tree; and trees of forms that don't run yet.
-static REFUSED: [(&[u8], &str); 17] = [
+/// deep; tokens without a tree; an index expression; and nodes without a type.
+static REFUSED: [(&[u8], &str); 16] = [
     (
         b"element P x: int(0); end extern s: set{P}; proc main s.x = s.x? end",
         "refused: line 1, byte 62: bad byte\n",
@@ -152,10 +152,6 @@ static REFUSED: [(&[u8], &str); 17] = [
         b"element P\nx: vector[7](int(0)); end extern s: set{P}; proc main end",
         "refused: line 2: too large\n",
     ),
-    (
-        b"element P x: int(0); end extern s: set{P}; proc main s.x = 2*(s.x + s.x); end",
-        "refused: not yet\n",
-    ),
 ];
 
 #[test]
@@ -167,10 +163,11 @@ fn programs_are_refused(rt: HostRuntime) -> Result<(), Fail> {
 }
 
 /// Parentheses leave nothing in a tree.
-static PARENTHESISED: [&[u8]; 3] = [
+static PARENTHESISED: [&[u8]; 4] = [
     b"element P x: int(0); end extern s: set{P}; proc main s.x = (s.x); end",
     b"element P x: int(0); end extern s: set{P}; proc main s.x = 2*(s.x) - (s.x); end",
     b"element P x: int(0); end extern s: set{P}; proc main s.x = (-(((3*s.x))) + 4*s.x); end",
+    b"element P x: int(0); end extern s: set{P}; proc main s.x = 3*(s.x + s.x) - 5*(s.x); end",
 ];
 
 #[test]

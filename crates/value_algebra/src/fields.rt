@@ -18,7 +18,7 @@ use vocabulary::limits::MOST_COLUMNS;
 use vocabulary::{L, NoMemory};
 
 /// No set has a column of this number, or of one above it.
-const PAST_COLUMNS: u64 = 64;
+pub const PAST_COLUMNS: u64 = 64;
 
 /// The fields of an element type; none where there is no such type.
 pub fn fields_of(elements: &[ElementType], element: u32) -> &[TypedField]
@@ -41,7 +41,7 @@ pub fn element_in(sets: &[TypedSet], set: u32) -> u32
 }
 
 /// How many words a block has.
-fn entries(block: BlockShape) -> u64
+pub fn entries(block: BlockShape) -> u64
     ensures { result ≡ entries_in block }
 {
     match block {
@@ -52,7 +52,7 @@ fn entries(block: BlockShape) -> u64
 }
 
 /// The block of a field; a number where there is no such field.
-fn block_of(fields: &[TypedField], field: u32) -> BlockShape
+pub fn block_of(fields: &[TypedField], field: u32) -> BlockShape
     ensures { result ≡ spec.block_of fields.now field }
 {
     match fields.get(field as usize) {
@@ -79,7 +79,7 @@ fn columns_before(fields: &[TypedField], field: u32) -> u64
 }
 
 /// The first column of a field, cut down to the first that no set has.
-fn first_column(fields: &[TypedField], field: u32) -> u64
+pub fn first_column(fields: &[TypedField], field: u32) -> u64
     ensures { result ≡ min (spec.first_column fields.now field) PAST_COLUMNS }
 {
     columns_before(fields, field)
@@ -99,14 +99,14 @@ fn column(sets: &Sets, set: u32, column: u64) -> &[u64]
 
 /// How many elements a set has; 0 where there is no such set.
 #[tactic(auto, using(std::proofs::lemmas::List::get_or_past))]
-fn count(sets: &Sets, set: u32) -> u32
+pub fn count(sets: &Sets, set: u32) -> u32
     ensures { result ≡ (set_at sets.now set).count }
 {
     if set < sets.len() { sets.count(set) } else { 0 }
 }
 
 /// The word of an element in a column, as many past the first of a field; 0 where there is none.
-fn entry_of(sets: &Sets, set: u32, element: usize, first: u64, component: u64) -> u64
+pub fn entry_of(sets: &Sets, set: u32, element: usize, first: u64, component: u64) -> u64
     ensures { (number : ℕ) → min number PAST_COLUMNS ≡ first → result ≡ spec.entry_of (set_at sets.now set) element (number + component) }
 {
     let words = column(sets, set, further(first, component));
@@ -115,7 +115,7 @@ fn entry_of(sets: &Sets, set: u32, element: usize, first: u64, component: u64) -
 
 /// Appends the words of a field at an element.
 #[tactic(auto, using(crate::proofs::Rows::row_begun, crate::proofs::Rows::row_grown))]
-fn push_element(
+pub fn push_element(
     fields: &[TypedField],
     sets: &Sets,
     set: u32,

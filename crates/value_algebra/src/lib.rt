@@ -8,8 +8,11 @@ mod scales;
 mod value;
 mod words;
 
-pub use fields::{element_in, field_at, field_over, fields_of, with_field};
-pub use products::{dot, product, transposed};
-pub use scales::{quotient, rescaled, square_root};
-pub use value::Value;
+pub use fields::{
+    block_of, count, element_in, entries, entry_of, field_at, field_over, fields_of, first_column,
+    push_element, with_field,
+};
+pub use products::{dot, product, sum_of_products, transposed};
+pub use scales::{quotient, rescaled, rescaled_word, square_root};
+pub use value::{Value, entry};
 pub use words::{difference, entrywise, negated, scaled, sum};

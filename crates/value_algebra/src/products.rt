@@ -112,7 +112,7 @@ fn pair_products(left: &[u64], right: &[u64]) -> u64
 }
 
 /// The sum of the products of the words at one index of two lists.
-fn sum_of_products(left: &[u64], right: &[u64]) -> u64
+pub fn sum_of_products(left: &[u64], right: &[u64]) -> u64
     ensures { result ≡ word (pos (sum_by (λ pair. pair.0 * pair.1) (zip left.now right.now))) }
 {
     pair_products(left, right)

@@ -56,7 +56,7 @@ fn may_take_root(from: u32, to: u32) -> bool
 }
 
 /// A word at another scale; 0 where a scale is none that types allow.
-fn rescaled_word(from: u32, to: u32, word: u64) -> u64
+pub fn rescaled_word(from: u32, to: u32, word: u64) -> u64
     ensures { result ≡ spec.rescaled_word from to word }
 {
     if may_change(from, to) {

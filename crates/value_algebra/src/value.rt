@@ -105,7 +105,7 @@ impl Value {
 
 /// The word of a row and a column, where a row has so many; 0 where there is none.
 #[tactic(auto, using(std::proofs::lemmas::List::get_or_past))]
-pub(crate) fn entry(words: &[u64], row: u64, columns: u64, column: u64) -> u64
+pub fn entry(words: &[u64], row: u64, columns: u64, column: u64) -> u64
     ensures { result ≡ slice_index words.now (row * columns + column) }
 {
     let index = row as u128 * columns as u128 + column as u128;

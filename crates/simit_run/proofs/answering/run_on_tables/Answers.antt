@@ -1,32 +1,46 @@
-use Rattle.std.proofs.Common.{◌≡◌, ◌∙◌, length, map, string_bytes, sym, ap, rules}
+use Rattle.std.proofs.Common.{◌≡◌, ◌∙◌, length, map, string_bytes, sym, ap}
 use Rattle.std.proofs.lemmas.List.{length-map}
 use Rattle.std.proofs.lemmas.Result.{err_from_is_err_and}
 use Rattle.simit_io.specs.Inputs.{Rose}
-use Rattle.simit_run.specs.Answer.{output_of}
-use Rattle.simit_run.proofs.Reading.{count_differs, tables_fail, tables_give}
+use Rattle.typed_tree.specs.declared.program.TypedProgram.{TypedProgram}
+use Rattle.simit_run.proofs.Reading.{count_differs, output_fails, output_given, tables_fail}
 use Rattle.simit_run.proofs.answering.run_on_tables.Goals as goal
 
 pub returns-then-names-sets-clause-shows : goal.returns-then-names-sets-clause-shows
 returns-then-names-sets-clause-shows g c =
+    let program = c.args.typed.now in
     let size = length-map c.args.names.now string_bytes in
-    rw (← size, c.items-sets.ensures)
-    (count_differs (g.I.Inputs.holds c.args.inputs.now) (Rose (g.I.Inputs.faults c.args.inputs.now) (g.I.Inputs.faults c.args.inputs.now)) c.args.program.now (map string_bytes c.args.names.now)
-    (λ same. c.if-names-sets.true (sym size ∙ same ∙ ap length (sym c.items-sets.ensures))))
+    let many : length c.items-sets.result.now ≡ length program.sets = ap length c.items-sets.ensures ∙ ap (λ (p : TypedProgram). length p.sets) c.typed_program.ensures.value in
+    rw (← size, many)
+    (count_differs (g.I.Inputs.holds c.args.inputs.now) (Rose (g.I.Inputs.faults c.args.inputs.now) (g.I.Inputs.faults c.args.inputs.now)) program (map string_bytes c.args.names.now)
+    (λ same. c.if-names-sets.true (sym size ∙ same ∙ sym many)))
 
 pub returns-in_err-read-clause-shows : goal.returns-in_err-read-clause-shows
 returns-in_err-read-clause-shows g c =
-    let program = c.args.program.now in
+    let program = c.args.typed.now in
     let names = map string_bytes c.args.names.now in
-    let as-many : length names ≡ length program.sets = length-map c.args.names.now string_bytes ∙ c.if-names-sets.false ∙ ap length c.items-sets.ensures in
+    let many : length c.items-sets.result.now ≡ length program.sets = ap length c.items-sets.ensures ∙ ap (λ (p : TypedProgram). length p.sets) c.typed_program.ensures.value in
+    let as-many : length names ≡ length program.sets = length-map c.args.names.now string_bytes ∙ c.if-names-sets.false ∙ many in
     let p = err_from_is_err_and c.from_residual-in_err-read.result c.from_residual-in_err-read.ensures.1 in
     rw (p.1, p.2)
     (tables_fail (g.I.Inputs.holds c.args.inputs.now) (Rose (g.I.Inputs.faults c.args.inputs.now) (g.I.Inputs.faults c.read_sets.new.inputs)) program names as-many c.in_err-read.field-0.0 c.in_err-read.ensures.shows)
 
+pub returns-in_err-output-clause-shows : goal.returns-in_err-output-clause-shows
+returns-in_err-output-clause-shows g c =
+    let program = c.args.typed.now in
+    let names = map string_bytes c.args.names.now in
+    let many : length c.items-sets.result.now ≡ length program.sets = ap length c.items-sets.ensures ∙ ap (λ (p : TypedProgram). length p.sets) c.typed_program.ensures.value in
+    let as-many : length names ≡ length program.sets = length-map c.args.names.now string_bytes ∙ c.if-names-sets.false ∙ many in
+    let p = err_from_is_err_and c.from_residual-in_err-output.result c.from_residual-in_err-output.ensures.1 in
+    rw (p.1, p.2)
+    (output_fails (g.I.Inputs.holds c.args.inputs.now) (Rose (g.I.Inputs.faults c.args.inputs.now) (g.I.Inputs.faults c.read_sets.new.inputs)) program names as-many c.in_ok-read.read.items c.in_ok-read.ensures.shows
+    c.in_err-output.field-0.0 c.in_err-output.ensures)
+
 pub returns-clause-shows : goal.returns-clause-shows
 returns-clause-shows g c =
-    let program = c.args.program.now in
+    let program = c.args.typed.now in
     let names = map string_bytes c.args.names.now in
-    let as-many : length names ≡ length program.sets = length-map c.args.names.now string_bytes ∙ c.if-names-sets.false ∙ ap length c.items-sets.ensures in
-    let made : c.in_ok-output.output ≡ output_of program c.in_ok-read.read.items = search rules in
-    rw made
-    (tables_give (g.I.Inputs.holds c.args.inputs.now) (Rose (g.I.Inputs.faults c.args.inputs.now) (g.I.Inputs.faults c.read_sets.new.inputs)) program names as-many c.in_ok-read.read.items c.in_ok-read.ensures.shows)
+    let many : length c.items-sets.result.now ≡ length program.sets = ap length c.items-sets.ensures ∙ ap (λ (p : TypedProgram). length p.sets) c.typed_program.ensures.value in
+    let as-many : length names ≡ length program.sets = length-map c.args.names.now string_bytes ∙ c.if-names-sets.false ∙ many in
+    output_given (g.I.Inputs.holds c.args.inputs.now) (Rose (g.I.Inputs.faults c.args.inputs.now) (g.I.Inputs.faults c.read_sets.new.inputs)) program names as-many c.in_ok-read.read.items c.in_ok-read.ensures.shows
+    c.in_ok-output.output c.in_ok-output.ensures

@@ -14,9 +14,9 @@ returns-in_err-program-clause-shows g c =
     let p = err_from_is_err_and c.from_residual-in_err-program.result c.from_residual-in_err-program.ensures.1 in
     rw (p.1, p.2)
     (program_fails (g.I.Inputs.holds c.args.inputs.now) (Rose (g.I.Inputs.faults c.args.inputs.now) (g.I.Inputs.faults c.read_file.new.inputs)) c.args.name.now c.in_ok-source.source.items c.in_err-program.field-0.0
-    c.in_ok-source.ensures.shows (rw c.deref.ensures.value at c.in_err-program.ensures.states))
+    c.in_ok-source.ensures.shows (rw c.deref.ensures.value at c.in_err-program.ensures))
 
 pub returns-clause-shows : goal.returns-clause-shows
 returns-clause-shows g c =
     program_given (g.I.Inputs.holds c.args.inputs.now) (Rose (g.I.Inputs.faults c.args.inputs.now) (g.I.Inputs.faults c.read_file.new.inputs)) c.args.name.now c.in_ok-source.source.items c.in_ok-program.program
-    c.in_ok-source.ensures.shows (rw c.deref.ensures.value at c.in_ok-program.ensures.states)
+    c.in_ok-source.ensures.shows (rw c.deref.ensures.value at c.in_ok-program.ensures)

@@ -1,5 +1,4 @@
 use Rattle.std.proofs.Common.{◌≡◌, ◌≤◌, [], length, drop, map, string_bytes}
-use Rattle.std.specs.List.{zip}
 use Rattle.simit_run.specs.Answer.{with_set}
 use Rattle.simit_run.specs.Shown.{GoesOn}
 use Rattle.simit_run.specs.Stage.{fold_stages}
@@ -9,11 +8,11 @@ use Rattle.simit_run.proofs.tables.read_sets.Given as goal
 -- the sets so far are read, and the whole goes on with the tables that are left
 abbrev pub invariant-loop-number : goal.invariant-loop-number
 invariant-loop-number g l =
-    let named = zip l.program.sets (map string_bytes l.names) in
+    let texts = map string_bytes l.names in
     record {
       many : length l.sets.items ≡ l.number;
-      read : AreRead l.program l.sets.items;
-      left : GoesOn (g.I.Inputs.holds l.fn.inputs) (fold_stages with_set [] named) (fold_stages with_set l.sets.items (drop l.number named));
+      read : AreRead l.typed l.sets.items;
+      left : GoesOn (g.I.Inputs.holds l.fn.inputs) (fold_stages (with_set l.typed) [] texts) (fold_stages (with_set l.typed) l.sets.items (drop l.number texts));
       same_files : g.I.Inputs.holds l.inputs ≡ g.I.Inputs.holds l.fn.inputs;
       counted : g.I.Inputs.faults l.fn.inputs ≤ g.I.Inputs.faults l.inputs;
     }

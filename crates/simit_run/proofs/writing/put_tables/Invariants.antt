@@ -1,6 +1,6 @@
 use Rattle.std.proofs.Common.{◌≡◌, ◌≤◌, take, vec_capacity}
 use Rattle.simit_io.specs.Sink.{Puts}
-use Rattle.simit_run.specs.Answer.{texts_of}
+use Rattle.simit_run.specs.Output.{texts_of}
 use Rattle.simit_run.proofs.writing.put_tables.Given as goal
 
 -- the tables so far were put whole, and the buffer has the same capacity

@@ -1,0 +1,2 @@
+pub mod DenseWords
+pub mod Tallies

@@ -1,0 +1,21 @@
+//! Expressions and conditions of assembly functions, evaluated at an element without a value for each part: numbers stay
+//! in registers, and the words of vectors and matrices stand on one stack, which is used again.
+#![tactic(auto)]
+
+mod conditions;
+mod expression;
+mod indices;
+mod locals;
+mod operand;
+mod products;
+mod references;
+mod slices;
+mod stack;
+mod steps;
+mod words;
+
+pub use conditions::holds;
+pub use expression::evaluate;
+pub use locals::{Locals, Slot};
+pub use operand::Size;
+pub use words::Words;

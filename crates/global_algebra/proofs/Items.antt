@@ -1,0 +1,28 @@
+-- Lists that take one item after the other, up to the first fault.
+use Rattle.std.proofs.Common.{◌≡◌, ℕ, ◌+◌, ◌<◌, ◌≤◌, List, ◌∷◌, map, Result, Ok, Err, length, drop, get_or, sym, ap, ◌∙◌}
+use Rattle.std.proofs.lemmas.List.{drop_more, drop_all}
+use Rattle.vocabulary.specs.Answers.{◌>>=◌, fold_result}
+
+-- the list from an item on
+from_item : {X Y : Type 0} (f : X → Y) (xs : List X) (i : ℕ) (x : X) → i < length xs → x ≡ get_or xs i x
+    → map f (drop i xs) ≡ f x ∷ map f (drop (i + 1) xs)
+from_item f xs i x below here = ap (map f) (drop_more xs i x below ∙ ap (λ y. y ∷ drop (i + 1) xs) (sym here))
+
+-- an item is taken
+pub item_taken : {A B X E : Type 0} (step : A → B → Result A E) (f : X → B) (before after : A) (known : Result A E) (xs : List X) (i : ℕ) (x : X)
+    → i < length xs → x ≡ get_or xs i x → step before (f x) ≡ Ok after
+    → fold_result step before (map f (drop i xs)) ≡ known → fold_result step after (map f (drop (i + 1) xs)) ≡ known
+item_taken step f before after known xs i x below here gives so_far =
+    sym (ap (fold_result step before) (from_item f xs i x below here) ∙ ap (λ r. r >>= λ n. fold_result step n (map f (drop (i + 1) xs))) gives) ∙ so_far
+
+-- an item has a fault
+pub item_refused : {A B X E : Type 0} (step : A → B → Result A E) (f : X → B) (before : A) (known : Result A E) (xs : List X) (i : ℕ) (x : X) (fault : E)
+    → i < length xs → x ≡ get_or xs i x → step before (f x) ≡ Err fault
+    → fold_result step before (map f (drop i xs)) ≡ known → known ≡ Err fault
+item_refused step f before known xs i x fault below here gives so_far =
+    sym so_far ∙ ap (fold_result step before) (from_item f xs i x below here) ∙ ap (λ r. r >>= λ n. fold_result step n (map f (drop (i + 1) xs))) gives
+
+-- no item is left
+pub items_ended : {A B X E : Type 0} (step : A → B → Result A E) (f : X → B) (before : A) (known : Result A E) (xs : List X) (i : ℕ)
+    → length xs ≤ i → fold_result step before (map f (drop i xs)) ≡ known → known ≡ Ok before
+items_ended step f before known xs i past so_far = sym so_far ∙ ap (λ l. fold_result step before (map f l)) (drop_all i xs past)

@@ -1,0 +1,49 @@
+//! Where a function runs.
+
+use algebra_meaning::{ElementContext, Scope};
+use hypergraph::Sets;
+use std::marker::Model;
+use typed_tree::TypedProgram;
+use value_algebra::Value;
+
+/// What stays the same while a function runs at an element.
+#[derive(Drop)]
+pub(crate) struct Call<'a> {
+    pub program: &'a TypedProgram,
+    pub sets: &'a Sets,
+    pub place: ElementContext,
+}
+
+impl<'a> Model for Call<'a> {
+    ghost use Rattle.std.specs.Coded.{codes};
+    ghost use Rattle.sim_syntax.specs.contracts.expression.Expr as tree_expression;
+    ghost use Rattle.sim_syntax.specs.contracts.statement.Stmt as tree_statement;
+    ghost use Rattle.typed_tree.specs.contracts.expression.TypedExpr as expression;
+    ghost use Rattle.typed_tree.specs.contracts.function.FunctionStmt as function;
+    ghost use Rattle.typed_tree.specs.contracts.main_procedure.MainStmt as main;
+    ghost use Rattle.algebra_meaning.specs.Element as spec;
+
+    ghost Value = { spec.Call };
+
+    ghost coded = { Prim.hlevel (codes, tree_expression.the_row.coded, tree_statement.the_row.coded, expression.the_row.coded, function.the_row.coded, main.the_row.coded) };
+
+    ghost view = { λ c. record { program = c.program.now; sets = c.sets.now; place = c.place } };
+}
+
+impl<'a> Call<'a> {
+    ghost use Rattle.std.specs.Prelude.{◌≡◌};
+    ghost use Rattle.algebra_meaning.specs.Element as spec;
+
+    /// What the names of an expression stand for, by the locals.
+    pub(crate) fn scope<'b>(&'b self, locals: &'b [Value]) -> Scope<'b>
+        ensures { result ≡ spec.scope_of self.now locals.now }
+    {
+        Scope {
+            program: self.program,
+            sets: self.sets,
+            variables: &[],
+            locals,
+            place: Some(self.place),
+        }
+    }
+}

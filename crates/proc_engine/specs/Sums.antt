@@ -1,0 +1,23 @@
+-- What was contributed up to an element: a word of the contracts inside this crate alone.
+use Rattle.std.specs.Prelude.{ℕ, List, [], Result, Ok, Err}
+use Rattle.std.specs.List.{range_with_len}
+use Rattle.vocabulary.specs.Answers.{fold_result}
+use Rattle.hypergraph.specs.SetValue.{SetValue}
+use Rattle.typed_tree.specs.declared.function.TypedFunction.{TypedFunction}
+use Rattle.typed_tree.specs.declared.program.TypedProgram.{TypedProgram}
+use Rattle.value_algebra.specs.declared.value.Value.{Value}
+use Rattle.algebra_meaning.specs.declared.contribution.Contribution.{Contribution}
+use Rattle.algebra_meaning.specs.declared.stopped.Trapped.{Trapped}
+use Rattle.algebra_meaning.specs.Assembled.{with_element}
+
+abbrev pub or_none : Result (List Contribution) Trapped → List Contribution
+or_none (Ok contributed) = contributed
+or_none (Err trapped) = []
+
+-- what the elements of a set below a number contribute, or the trap of the least that traps
+abbrev pub below : TypedProgram → List SetValue → ℕ → TypedFunction → List Value → ℕ → Result (List Contribution) Trapped
+below program sets set function args n = fold_result (with_element program sets set function args) [] (range_with_len 0 n)
+
+-- what they contribute, where none traps
+abbrev pub contributed_below : TypedProgram → List SetValue → ℕ → TypedFunction → List Value → ℕ → List Contribution
+contributed_below program sets set function args n = or_none (below program sets set function args n)

@@ -1,9 +1,0 @@
-pub mod Tries
-pub mod Names
-pub mod Shapes
-pub mod Expressions
-pub mod Functions
-pub mod Sums
-pub mod MainProcedure
-pub mod Limits
-pub mod Resolved

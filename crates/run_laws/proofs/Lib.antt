@@ -1,0 +1,6 @@
+mod Turns
+mod Forms
+mod Answered
+mod Only
+mod Shapes
+mod Maps

@@ -1,0 +1,4 @@
+pub mod Lists
+pub mod Columns
+pub mod SchemasRead
+pub mod Assigned
