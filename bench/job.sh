@@ -14,19 +14,14 @@ case $rounds in
 esac
 
 bench=$(cd "$(dirname "$0")" && pwd)
-# No program has fields with decimals yet, so a small program beside simit calls the same readers and writers of tables.
-case $job in
-scales) name=table_bench ;;
-*) name=simit ;;
-esac
-simit=$(realpath -m "${SIMIT:-$bench/../crates/$name/out/$name}")
+simit=$(realpath -m "${SIMIT:-$bench/../crates/simit/out/simit}")
 python=${PYTHON:-$(command -v python3)}
 if [ ! -f "$simit" ] || [ ! -x "$simit" ]; then
     cat >&2 <<END
 $job.sh: there is no program at $simit
-Build the proved program first: 'rt ci' at the top proves it and leaves it at crates/$name/out/$name. Then run this
+Build the proved program first: 'rt ci' at the top proves it and leaves it at crates/simit/out/simit. Then run this
 script again.
-A program that stands elsewhere is named by SIMIT, as in: SIMIT=/path/to/$name bench/$job.sh
+A program that stands elsewhere is named by SIMIT, as in: SIMIT=/path/to/simit bench/$job.sh
 END
     exit 1
 fi

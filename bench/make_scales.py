@@ -1,4 +1,4 @@
-"""Makes the input of the job over tables with decimals in a folder: the tables of points, with two fields of scale 4,
+"""Makes the input of the job over tables with decimals in a folder: the program decimals.sim, which changes nothing, the tables of points, with two fields of scale 4,
 and of the springs between them, with a field of scale 2, whole-decimal-points.csv and whole-decimal-springs.csv, and a
 quarter of that size, quarter-decimal-points.csv and quarter-decimal-springs.csv. The same bytes come of every run.
 
@@ -8,6 +8,19 @@ import pathlib
 import sys
 
 POINTS = 524288
+PROGRAM = """\
+element Point
+  x : int(4);
+  f : int(4);
+end
+element Spring
+  k : int(2);
+end
+extern points : set{Point};
+extern springs : set{Spring}(points, points);
+proc main
+end
+"""
 EDGES = ["922337203685477.5807", "-922337203685477.5808", "-0.0001", "0.10000"]
 
 
@@ -47,6 +60,7 @@ def write_springs(file, points):
 
 def main():
     folder = pathlib.Path(sys.argv[1])
+    (folder / "decimals.sim").write_text(PROGRAM)
     for size, points in [("whole", POINTS), ("quarter", POINTS // 4)]:
         with open(folder / f"{size}-decimal-points.csv", "w") as file:
             write_points(file, points)

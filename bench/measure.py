@@ -38,7 +38,7 @@ class Job:
 JOBS = {
     "table": Job("table", ["run", "work/four.sim"], ["points"], [2], ["-I", "-S", "table.py"]),
     "springs": Job("springs", ["run", "work/pull.sim"], ["points", "springs"], [2, 3], ["springs.py"]),
-    "scales": Job("scales", [], ["decimal-points", "decimal-springs"], [2, 3], ["-I", "-S", "scales.py"]),
+    "scales": Job("scales", ["run", "work/decimals.sim"], ["decimal-points", "decimal-springs"], [2, 3], ["-I", "-S", "scales.py"]),
 }
 
 

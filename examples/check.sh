@@ -82,7 +82,42 @@ refused 'points.x = 2*points.x' 'line 7, token 29: syntax'
 refused 'points.y = points.x;' 'line 6: unknown name'
 refused 'points.x = points.x + 1;' 'line 6: shape'
 refused 'points.x = 1.5*points.x;' 'line 6: scale'
-refused 'points.x = points.x*2;' 'not yet'
+refused 'points.x = ix (i) points.x(i);' 'not yet'
+
+# stopped STATUS NOTE LINE: a program with this text in its sixth line stops so, and puts nothing out
+stopped() {
+    printf 'element P\n  x : int(0);\nend\nextern points : set{P};\nproc main\n  %s\nend\n' "$3" >"$work/stops.sim"
+    printf 'x\n1\n' >"$work/points.csv"
+    echo "$2" >"$work/wanted"
+    call run "$work/stops.sim" "$work/points.csv"
+    compare "a run that stops: $2" "$status" "$1" "$work/nothing" "$work/wanted"
+}
+
+stopped 5 'trap at line 6: assertion failed' 'assert 1 == 2;'
+stopped 5 'trap at line 6: division by zero' 'var a = quot(1, 0, 0);'
+stopped 5 'trap at line 6: root of a negative number' 'var a = isqrt(-1, 0);'
+stopped 6 'spent: 100000 turns' 'while 1 == 1 end'
+
+# mapped STATUS NOTE COUNT K..: a map that divides by the springs' k, over so many points, with springs of these k
+mapped() {
+    wanted_status=$1
+    echo "$2" >"$work/wanted"
+    count=$3
+    shift 3
+    {
+        sed '/^func/,$d' pull.sim
+        echo 'func ratio(s : Spring, p : (Point*2)) -> (K : matrix[points,points](int(0)))'
+        echo '  K(p(0),p(1)) = quot(100, s.k, 0);'
+        printf 'end\nproc main\n  var K = map ratio to springs reduce +;\nend\n'
+    } >"$work/ratio.sim"
+    { echo x,f; repeated "$count" 0,0; } >"$work/points.csv"
+    { echo p0,p1,k; for k in "$@"; do echo "0,1,$k"; done; } >"$work/springs.csv"
+    call run "$work/ratio.sim" "$work/points.csv" "$work/springs.csv"
+    compare "a run that stops: $(cat "$work/wanted")" "$status" "$wanted_status" "$work/nothing" "$work/wanted"
+}
+
+mapped 5 'trap at line 14, element 3: division by zero' 3 1 1 1 0 1 1 1 0
+mapped 7 'limit: dense words over 4194304' 2049
 
 # refused_table NOTE LINES..: a table of springs with these lines is refused
 refused_table() {
