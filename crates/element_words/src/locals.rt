@@ -104,19 +104,41 @@ impl Locals {
         self.live = 0;
     }
 
-    /// The first `local` of them, then one more: this size and these words.
-    pub fn set_from(&mut self, local: u32, size: Size, words: &[u64]) -> Result<(), NoMemory>
-        ensures { OnOk result (self.new ≡ with_local self.old local (sized size words.now)) }
+    /// One more local: this size and these words, in memory that stands there already if there is some.
+    fn push(&mut self, size: Size, words: &[u64]) -> Result<(), NoMemory>
+        ensures { OnOk result (self.new ≡ self.old ++ sized size words.now ∷ []) }
     {
-        let first = self.live.min(local as usize);
-        match self.slots.get_mut(first) {
+        match self.slots.get_mut(self.live) {
             Some(slot) => slot.set(size, words)?,
             None => {
                 let slot = Slot::of(*self.slots.allocator(), size, words)?;
                 self.slots.push(slot).map_err(|_| NoMemory)?;
             }
         }
-        self.live = first + 1;
+        self.live += 1;
+        Ok(())
+    }
+
+    /// The first `local` of them, then one more: this size and these words.
+    pub fn set_from(&mut self, local: u32, size: Size, words: &[u64]) -> Result<(), NoMemory>
+        ensures { OnOk result (self.new ≡ with_local self.old local (sized size words.now)) }
+    {
+        self.live = self.live.min(local as usize);
+        self.push(size, words)
+    }
+
+    /// These locals in place of those that are there, in the same memory where there is enough.
+    pub fn restart(&mut self, args: &[Value]) -> Result<(), NoMemory>
+        ensures { OnOk result (self.new ≡ args.now) }
+    {
+        self.live = 0;
+        for value in args {
+            let size = Size {
+                rows: value.rows,
+                columns: value.columns,
+            };
+            self.push(size, value.words.items())?;
+        }
         Ok(())
     }
 

@@ -8,7 +8,7 @@ use value_algebra::Value;
 
 /// What stays the same while a function runs at an element.
 #[derive(Drop)]
-pub(crate) struct Call<'a> {
+pub struct Call<'a> {
     pub program: &'a TypedProgram,
     pub sets: &'a Sets,
     pub place: ElementContext,

@@ -16,7 +16,7 @@ use value_algebra::{Value, count};
 use vocabulary::{L, NoMemory};
 
 /// Where a function runs at an element of a set.
-fn place_of(function: &TypedFunction, set: u32, element: u32) -> ElementContext
+pub fn place_of(function: &TypedFunction, set: u32, element: u32) -> ElementContext
     ensures { result ≡ spec.place_of function.now set element }
 {
     ElementContext {
@@ -47,7 +47,7 @@ fn contributions_at(
 }
 
 /// What a function that is mapped to a set contributes at one of its elements, or its trap there.
-pub fn element_contributions(
+fn element_contributions(
     alloc: Global,
     program: &TypedProgram,
     sets: &Sets,
@@ -90,8 +90,9 @@ fn all_contributions(
 {
     let mut so_far = L::empty(alloc);
     for element in 0..count(sets, set) {
-        let contributed =
-            element_contributions(alloc, program, sets, set, function, args, element)?;
+        let contributed = element_contributions(
+            alloc, program, sets, set, function, args, element,
+        )?;
         append(&mut so_far, contributed)?;
     }
     Ok(so_far)

@@ -9,4 +9,5 @@ mod entries;
 mod locals;
 mod statements;
 
-pub use elements::{element_contributions, mapped};
+pub use call::Call;
+pub use elements::{mapped, place_of};

@@ -14,7 +14,8 @@ use Rattle.algebra_meaning.specs.declared.stopped.Stopped.{Stopped}
 use Rattle.algebra_meaning.specs.declared.stopped.Stopped.TheVariants.{By}
 use Rattle.algebra_meaning.specs.declared.stopped.Trapped.{Trapped}
 use Rattle.algebra_meaning.specs.Assembled.{all_assembled, all_contributions, contributions_at, mapped, of_element, with_element}
-use Rattle.proc_engine.specs.Sums.{below, contributed_below, or_none}
+use Rattle.proc_engine.specs.Running.{those_of}
+use Rattle.proc_engine.specs.Sums.{below, contributed_below}
 
 -- ---- numbers that are counted up
 
@@ -55,7 +56,7 @@ with_next step before after n taken next =
     ap (fold_result step []) (range_more n) ∙ fold_more step [] (range_with_len 0 n) n ∙ ap (λ (r : Result (List Contribution) Trapped). r >>= λ so_far. step so_far n) taken ∙ next
 
 -- an element is added
-pub element_added : (program : TypedProgram) (sets : List SetValue) (set : ℕ) (function : TypedFunction) (args : List Value) (contributed : List Contribution) (n : ℕ)
+element_added : (program : TypedProgram) (sets : List SetValue) (set : ℕ) (function : TypedFunction) (args : List Value) (contributed : List Contribution) (n : ℕ)
     → below program sets set function args n ≡ Ok (contributed_below program sets set function args n)
     → of_element n (contributions_at program sets set function args n) ≡ Ok contributed
     → below program sets set function args (n + 1) ≡ Ok (contributed_below program sets set function args n ++ contributed)
@@ -64,9 +65,25 @@ element_added program sets set function args contributed n taken is =
     (ap (λ (r : Result (List Contribution) Trapped). r >>= λ c. Ok (contributed_below program sets set function args n ++ c)) is)
 
 -- one that is known is what is kept
-pub kept : (program : TypedProgram) (sets : List SetValue) (set : ℕ) (function : TypedFunction) (args : List Value) (known : List Contribution) (n : ℕ)
+kept : (program : TypedProgram) (sets : List SetValue) (set : ℕ) (function : TypedFunction) (args : List Value) (known : List Contribution) (n : ℕ)
     → below program sets set function args n ≡ Ok known → contributed_below program sets set function args n ≡ known
-kept program sets set function args known n is = ap or_none is
+kept program sets set function args known n is = ap those_of is
+
+-- an element is added to those below it
+pub next_taken : (program : TypedProgram) (sets : List SetValue) (set : ℕ) (function : TypedFunction) (args : List Value) (contributed : List Contribution) (n : ℕ)
+    → below program sets set function args n ≡ Ok (contributed_below program sets set function args n)
+    → of_element n (contributions_at program sets set function args n) ≡ Ok contributed
+    → below program sets set function args (n + 1) ≡ Ok (contributed_below program sets set function args (n + 1))
+next_taken program sets set function args contributed n taken is =
+    let more : below program sets set function args (n + 1) ≡ Ok (contributed_below program sets set function args n ++ contributed) = element_added program sets set function args contributed n taken is in
+    more ∙ ap Ok (sym (kept program sets set function args (contributed_below program sets set function args n ++ contributed) (n + 1) more))
+
+pub next_kept : (program : TypedProgram) (sets : List SetValue) (set : ℕ) (function : TypedFunction) (args : List Value) (contributed : List Contribution) (n : ℕ)
+    → below program sets set function args n ≡ Ok (contributed_below program sets set function args n)
+    → of_element n (contributions_at program sets set function args n) ≡ Ok contributed
+    → contributed_below program sets set function args (n + 1) ≡ contributed_below program sets set function args n ++ contributed
+next_kept program sets set function args contributed n taken is =
+    kept program sets set function args (contributed_below program sets set function args n ++ contributed) (n + 1) (element_added program sets set function args contributed n taken is)
 
 -- those that are left, after one
 pub left_after : (program : TypedProgram) (sets : List SetValue) (set : ℕ) (function : TypedFunction) (args : List Value) (before contributed after : List Contribution)

@@ -1,1 +1,4 @@
+pub mod Steps
 pub mod Elements
+pub mod Running
+pub mod Statements

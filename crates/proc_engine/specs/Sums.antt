@@ -1,5 +1,5 @@
 -- What was contributed up to an element: a word of the contracts inside this crate alone.
-use Rattle.std.specs.Prelude.{ℕ, List, [], Result, Ok, Err}
+use Rattle.std.specs.Prelude.{ℕ, List, [], Result}
 use Rattle.std.specs.List.{range_with_len}
 use Rattle.vocabulary.specs.Answers.{fold_result}
 use Rattle.hypergraph.specs.SetValue.{SetValue}
@@ -9,10 +9,7 @@ use Rattle.value_algebra.specs.declared.value.Value.{Value}
 use Rattle.algebra_meaning.specs.declared.contribution.Contribution.{Contribution}
 use Rattle.algebra_meaning.specs.declared.stopped.Trapped.{Trapped}
 use Rattle.algebra_meaning.specs.Assembled.{with_element}
-
-abbrev pub or_none : Result (List Contribution) Trapped → List Contribution
-or_none (Ok contributed) = contributed
-or_none (Err trapped) = []
+use Rattle.proc_engine.specs.Running.{those_of}
 
 -- what the elements of a set below a number contribute, or the trap of the least that traps
 abbrev pub below : TypedProgram → List SetValue → ℕ → TypedFunction → List Value → ℕ → Result (List Contribution) Trapped
@@ -20,4 +17,4 @@ below program sets set function args n = fold_result (with_element program sets 
 
 -- what they contribute, where none traps
 abbrev pub contributed_below : TypedProgram → List SetValue → ℕ → TypedFunction → List Value → ℕ → List Contribution
-contributed_below program sets set function args n = or_none (below program sets set function args n)
+contributed_below program sets set function args n = those_of (below program sets set function args n)

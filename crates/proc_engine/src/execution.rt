@@ -4,7 +4,7 @@ ghost use Rattle.std.specs.Prelude.{◌≡◌, IfOk};
 ghost use Rattle.algebra_meaning.specs.Run.{run};
 ghost use Rattle.global_algebra.specs.Ending.{ending_of};
 
-use crate::maps::SummedMaps;
+use crate::word_maps::WordMaps;
 use block_types::Typed;
 use global_algebra::{Ending, run};
 use hypergraph::Sets;
@@ -15,5 +15,5 @@ use vocabulary::NoMemory;
 pub fn execute(alloc: Global, typed: &Typed, sets: Sets, turns: u32) -> Result<Ending, NoMemory>
     ensures { IfOk result (λ ending. ending ≡ ending_of (run typed.now sets turns)) }
 {
-    run(alloc, &SummedMaps, typed.typed_program(), sets, turns)
+    run(alloc, &WordMaps, typed.typed_program(), sets, turns)
 }

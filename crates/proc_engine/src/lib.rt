@@ -1,7 +1,9 @@
-//! Runs typed programs: as the plain run does, but for maps, whose contributions are added as they come.
+//! Runs typed programs: as the plain run does, but for maps, whose functions run on words, and whose contributions are added
+//! as they come.
 #![tactic(auto)]
 
 mod execution;
-mod maps;
+mod word_maps;
+mod word_statements;
 
 pub use execution::execute;

@@ -4,7 +4,7 @@ use Rattle.vocabulary.specs.Answers.{fold_result}
 use Rattle.hypergraph.specs.Sets.{set_at}
 use Rattle.algebra_meaning.specs.Assembled.{all_assembled, all_contributions, with_element}
 use Rattle.proc_engine.specs.Sums.{below, contributed_below}
-use Rattle.proc_engine.proofs.maps.all_sums.Given as goal
+use Rattle.proc_engine.proofs.word_maps.all_sums.Given as goal
 
 -- what the elements so far contribute is added, and with those that are left it is all
 abbrev pub invariant-loop-element : goal.invariant-loop-element
