@@ -19,8 +19,8 @@ end
 extern points : set{Point};
 extern springs : set{Spring}(points, points);
 """
-T1 = "x,f\n0,0\n10,0\n25,0\n"
-S1 = "p0,p1,k\n0,1,2\n1,2,3\n"
+POINTS = "x,f\n0,0\n10,0\n25,0\n"
+SPRINGS = "p0,p1,k\n0,1,2\n1,2,3\n"
 groups = {}
 checked = set()
 names = set()
@@ -124,7 +124,7 @@ def sparse(name, where, words):
             h.write(v)
 
 
-def ps(points=T1, springs=S1):
+def ps(points=POINTS, springs=SPRINGS):
     return [("points", points), ("springs", springs)]
 
 
@@ -278,7 +278,7 @@ one("table_none", 2, "", "refused: points.csv: no header")
 case(g, "table_row_width", A, ps(springs="p0,p1,k\n0,1\n0,3,2\n"), "refused: springs.csv row 1: width")
 case(g, "table_row_end", A, ps(springs="p0,p1,k\n0,3,2\n"), "refused: springs.csv row 1, column 1: no such endpoint")
 case(g, "table_end_text", A, ps(springs="p0,p1,k\n-0, 1.0 ,2\n"), {"points.f": [20, -20, 0], "springs.p0": [0], "springs.p1": [1]})
-case(g, "table_number_files", A, [("points", T1)], "refused: 1 files for 2 sets")
+case(g, "table_number_files", A, [("points", POINTS)], "refused: 1 files for 2 sets")
 case(g, "type_of_scale", A.replace("map pull to springs reduce +", "points.x * 1.0"), ps(), "refused: line 16: scale")
 case(g, "type_of_name", A.replace("points.f = map pull to springs reduce +", "points.g = points.x"), ps(), "refused: line 16: unknown name")
 case(g, "type_host", HEAD + "extern func least(int(0), int(0)) -> int(0);\nproc main\nend\n", ps(), "refused: line 10: unknown name")
@@ -755,7 +755,7 @@ end
 extern points : set{Point};
 extern faces : set{Face}(points, points, points);
 """
-ft = [("points", T1), ("faces", "p0,p1,p2,w.0,w.1,w.2\n0,1,2,1,2,3\n2,2,0,10,20,30\n")]
+ft = [("points", POINTS), ("faces", "p0,p1,p2,w.0,w.1,w.2\n0,1,2,1,2,3\n2,2,0,10,20,30\n")]
 case(g, "fend_sum", TRI + """func area(s : Face, p : (Point*3)) -> (f : vector[points](int(0)))
   for i in 0:3
     f(p(i)) = s.w(i)*p(i).x;
@@ -894,7 +894,7 @@ proc main
   var G = map inc to springs reduce +;
 %send
 """
-tt = [("points", T1), ("springs", "p0,p1,k,l\n0,1,2,0\n1,2,3,0\n2,2,9,1\n")]
+tt = [("points", POINTS), ("springs", "p0,p1,k,l\n0,1,2,0\n1,2,3,0\n2,2,9,1\n")]
 case(g, "two_gradient", TWO % "  springs.l = G*points.x;\n  points.f = G'*(springs.k .* springs.l);\n", tt, {"springs.l": [10, 15, 0], "points.f": [-20, 20 - 45, 45]})
 case(g, "two_laplacian", TWO % "  points.f = G'*G*points.x;\n  springs.l = G*G'*springs.k;\n", tt, {"points.f": [-10, -5, 15], "springs.l": [2 * 2 - 3, 2 * 3 - 2, 0]})
 case(g, "two_nested", TWO % "  var L = (G*G')';\n  springs.l = L*L*springs.k;\n", tt, {"springs.l": [2 * 1 - 4, 2 * 4 - 1, 0]})
@@ -932,7 +932,7 @@ end
 """, [("as", "x\n1\n2\n3\n"), ("bs", "y\n5\n7\n"), ("la", "p0,p1,k\n0,1,10\n1,2,20\n"), ("lb", "p0,k\n1,3\n1,4\n0,0\n")],
     {"bs.y": [0, 49], "la.k": [1 + 20 + 1, 2 + 60 + 2], "as.x": [22, 220 + 64, 1280], "lb.k": [4, 5, 1]})
 case(g, "map_one_end", HEAD.replace("(points, points)", "(points)") + "func o(s : Spring, p : (Point*1)) -> (f : vector[points](int(0)))\n  f(p(0)) = s.k;\nend\nproc main\n  points.f = map o to springs reduce +;\nend\n",
-    [("points", T1), ("springs", "p0,k\n2,5\n2,6\n0,1\n")], {"points.f": [1, 0, 11]})
+    [("points", POINTS), ("springs", "p0,k\n2,5\n2,6\n0,1\n")], {"points.f": [1, 0, 11]})
 case(g, "map_eight_ends", """element Point
   x : int(0);
 end
@@ -1162,7 +1162,7 @@ def big(n):
 
 
 LIM = "limit: dense words over 4194304"
-S0 = "p0,p1,k\n"
+NO_SPRINGS = "p0,p1,k\n"
 BD = B.replace("-(K*points.x)", "%s")
 SB = "p0,p1,k\n0,2047,5\n2047,1,7\n"
 
@@ -1171,23 +1171,23 @@ def bigwant(n, f):
     return {"points.f": [f.get(i, 0) for i in range(n)]}
 
 
-case(g, "dense_2048", B, ps(big(2048), S0), bigwant(2048, {}))
-case(g, "dense_2049", B, ps(big(2049), S0), LIM)
+case(g, "dense_2048", B, ps(big(2048), NO_SPRINGS), bigwant(2048, {}))
+case(g, "dense_2049", B, ps(big(2049), NO_SPRINGS), LIM)
 case(g, "dense_2048_springs", B, ps(big(2048), SB), bigwant(2048, {0: 5 * 2047, 2047: -5 * 2047 - 7 * 2046, 1: 7 * 2046}))
 # (1024^2) * 4 = 4194304: one variable and three counted nodes
-case(g, "dense_three", BD % "(K + K' - 2*K)*points.x".replace("- 2*K", ""), ps(big(1024), S0), bigwant(1024, {}))
+case(g, "dense_three", BD % "(K + K' - 2*K)*points.x".replace("- 2*K", ""), ps(big(1024), NO_SPRINGS), bigwant(1024, {}))
 # K, K', K + K', 2*K: the whole sum is the fifth of 1024^2, one over four
-case(g, "dense_nodes_over", BD % "(K + K' + 2*K)*points.x", ps(big(1024), S0), LIM)
-case(g, "dense_four", BD % "(K' + 2*K)*points.x", ps(big(1024), S0), bigwant(1024, {}))
-case(g, "dense_four_1025", BD % "(K' + 2*K)*points.x", ps(big(1025), S0), LIM)
-case(g, "dense_var_right_side", B.replace("  points.f = -(K*points.x);", "  var L = K';\n  var M = L + K;\n  var P = M;\n  points.f = P*points.x;"), ps(big(1024), S0), bigwant(1024, {}))
-case(g, "dense_var_inner", B.replace("  points.f = -(K*points.x);", "  var L = K';\n  var M = L + K + L;\n  var P = M;\n  points.f = P*points.x;"), ps(big(1024), S0), LIM)
-case(g, "dense_leading_minus", BD % "(-K + K)*(2*points.x)", ps(big(1182), S0), bigwant(1182, {}))   # 3 * 1182^2 = 4191372
-case(g, "dense_leading_minus_over", BD % "(-K + K)*(2*points.x)", ps(big(1183), S0), LIM)   # 3 * 1183^2 = 4198467
-case(g, "dense_not_run", B.replace("  points.f = -(K*points.x);", "  if 1 == 2\n    var L = K*K;\n    while 1 == 1\n      var M = L*K';\n    end\n  end\n"), ps(big(1024), S0), bigwant(1024, {}))
-case(g, "dense_not_run_over", B.replace("  points.f = -(K*points.x);", "  if 1 == 2\n    var L = K*K;\n    while 1 == 1\n      var M = L*K';\n    end\n  end\n"), ps(big(1025), S0), LIM)
-case(g, "dense_before_trap", B.replace("  points.f = -(K*points.x);", "  assert 1 == 2;"), ps(big(2049), S0), LIM)
-case(g, "dense_only_vectors", A, ps(big(3000), S0), bigwant(3000, {}))
+case(g, "dense_nodes_over", BD % "(K + K' + 2*K)*points.x", ps(big(1024), NO_SPRINGS), LIM)
+case(g, "dense_four", BD % "(K' + 2*K)*points.x", ps(big(1024), NO_SPRINGS), bigwant(1024, {}))
+case(g, "dense_four_1025", BD % "(K' + 2*K)*points.x", ps(big(1025), NO_SPRINGS), LIM)
+case(g, "dense_var_right_side", B.replace("  points.f = -(K*points.x);", "  var L = K';\n  var M = L + K;\n  var P = M;\n  points.f = P*points.x;"), ps(big(1024), NO_SPRINGS), bigwant(1024, {}))
+case(g, "dense_var_inner", B.replace("  points.f = -(K*points.x);", "  var L = K';\n  var M = L + K + L;\n  var P = M;\n  points.f = P*points.x;"), ps(big(1024), NO_SPRINGS), LIM)
+case(g, "dense_leading_minus", BD % "(-K + K)*(2*points.x)", ps(big(1182), NO_SPRINGS), bigwant(1182, {}))   # 3 * 1182^2 = 4191372
+case(g, "dense_leading_minus_over", BD % "(-K + K)*(2*points.x)", ps(big(1183), NO_SPRINGS), LIM)   # 3 * 1183^2 = 4198467
+case(g, "dense_not_run", B.replace("  points.f = -(K*points.x);", "  if 1 == 2\n    var L = K*K;\n    while 1 == 1\n      var M = L*K';\n    end\n  end\n"), ps(big(1024), NO_SPRINGS), bigwant(1024, {}))
+case(g, "dense_not_run_over", B.replace("  points.f = -(K*points.x);", "  if 1 == 2\n    var L = K*K;\n    while 1 == 1\n      var M = L*K';\n    end\n  end\n"), ps(big(1025), NO_SPRINGS), LIM)
+case(g, "dense_before_trap", B.replace("  points.f = -(K*points.x);", "  assert 1 == 2;"), ps(big(2049), NO_SPRINGS), LIM)
+case(g, "dense_only_vectors", A, ps(big(3000), NO_SPRINGS), bigwant(3000, {}))
 case(g, "dense_blocks", CGP, [("nodes", rows("b.0,b.1,b.2,x.0,x.1,x.2", *["0,0,0,0,0,0"] * 395)), ("links", "p0,p1,k\n")], LIM)     # 27*395^2 = 4212675
 case(g, "dense_function_products", HEAD + """func f(s : Spring) -> (k : vector[springs](int(0)))
   var M = [1, 2; 3, 4];
@@ -1208,8 +1208,8 @@ em = ps("x,f\n", "p0,p1,k\n")
 e4 = "set points\nx,f\nset springs\np0,p1,k\n"
 for nm, prog in [("B", B), ("C", C), ("D", D), ("E", E), ("F", F), ("G", G), ("H", H)]:
     case(g, "empty_" + nm, prog, em, e4)
-case(g, "empty_springs_B", B, ps(springs=S0), {"points.f": [0, 0, 0]})
-case(g, "empty_springs_matrices", B.replace("-(K*points.x)", "K*K'*points.x - rescale(-K, 0)*points.x + points.x"), ps(springs=S0), {"points.f": [0, 10, 25]})
+case(g, "empty_springs_B", B, ps(springs=NO_SPRINGS), {"points.f": [0, 0, 0]})
+case(g, "empty_springs_matrices", B.replace("-(K*points.x)", "K*K'*points.x - rescale(-K, 0)*points.x + points.x"), ps(springs=NO_SPRINGS), {"points.f": [0, 10, 25]})
 case(g, "empty_points_matrices", B.replace("-(K*points.x)", "K*K'*points.x - rescale(-K, 0)*points.x + points.x"), em, e4)
 case(g, "empty_dot", HEAD + "proc main\n  var d = dot(points.x, points.x);\n  assert d == 0;\n  springs.k = d*springs.k;\n  var q = quot(1, d, 0);\nend\n", em, "trap at line 14: division by zero")
 case(g, "empty_trap_args", HEAD + "func f(a : int(0), s : Spring) -> (k : vector[springs](int(0)))\n  k(s) = a;\n  assert 1 == 2;\nend\nproc main\n  springs.k = map f(1) to springs reduce +;\n  springs.k = map f(isqrt(-1, 0)) to springs reduce +;\nend\n", em,
@@ -1476,10 +1476,10 @@ case(g, "map_other_vertex_set_trap", TWOE % "  bs.x = -bs.x;\n  var x = map look
 
 # ---------------------------------------------------------------- first forms, and limits
 g = "requests"
-R11 = "element Point\n  x : int(0);\n  f : int(0);\nend\nextern points : set{Point};\nproc main\n  points.f = 2*points.x - points.f .* points.f;\n  points.x = -points.x + points.f;\nend\n"
-case(g, "first_1", R11, [("points", "x,f\n3,4\n-1,2\n")], "set points\nx,f\n-13,-10\n-5,-6\n")
-case(g, "first_2", R11, [("points", "x,f\n9223372036854775807,0\n")], "set points\nx,f\n9223372036854775807,-2\n")
-case(g, "first_3", R11, [("points", "x,f\n3\n")], "refused: points.csv row 1: width")
+FIRST_FORM = "element Point\n  x : int(0);\n  f : int(0);\nend\nextern points : set{Point};\nproc main\n  points.f = 2*points.x - points.f .* points.f;\n  points.x = -points.x + points.f;\nend\n"
+case(g, "first_1", FIRST_FORM, [("points", "x,f\n3,4\n-1,2\n")], "set points\nx,f\n-13,-10\n-5,-6\n")
+case(g, "first_2", FIRST_FORM, [("points", "x,f\n9223372036854775807,0\n")], "set points\nx,f\n9223372036854775807,-2\n")
+case(g, "first_3", FIRST_FORM, [("points", "x,f\n3\n")], "refused: points.csv row 1: width")
 for nm, t, w in [("header", "x", "refused: points.csv row 0, column 1: header"), ("cell", "x,f\n0,0\n10,0\n25,", "refused: points.csv row 3, column 1: empty cell"),
                  ("width", "x,f\n0,0\n10,0\n25", "refused: points.csv row 3: width"), ("whole", "x,f\n0,0\n10,0\n25,0", nine), ("none", "", "refused: points.csv: no header")]:
     case(g, "broken_2_" + nm, A, ps(t), w)
