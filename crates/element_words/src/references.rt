@@ -20,6 +20,7 @@ use type_rules::BlockShape;
 use typed_tree::{Referent, TypedField};
 use value_algebra::{
     block_of, count, element_in, entries, entry_of, fields_of, first_column, push_element,
+    push_over,
 };
 use vocabulary::NoMemory;
 
@@ -259,23 +260,6 @@ fn end_field(
     }
 }
 
-/// Pushes the words of a field over a set.
-#[tactic(auto, using(crate::proofs::Made::elements_grown))]
-fn push_over(
-    fields: &[TypedField],
-    sets: &Sets,
-    set: u32,
-    field: u32,
-    stack: &mut Vec<u64>,
-) -> Result<(), NoMemory>
-    ensures { OnOk result (stack.new.items ≡ stack.old.items ++ flat_map (element_words fields.now (set_at sets.now set) field) (range_with_len 0 (set_at sets.now set).count)) }
-{
-    for element in 0..count(sets, set) as usize {
-        push_element(fields, sets, set, field, element, stack).map_err(|_| NoMemory)?;
-    }
-    Ok(())
-}
-
 /// A field of a set.
 #[tactic(auto, unfolding(value_algebra::specs::Fields::field_over))]
 fn set_field(
@@ -293,7 +277,7 @@ fn set_field(
     let Some(rows) = u64::from(count(scope.sets, set)).checked_mul(size) else {
         return Err(NoMemory);
     };
-    push_over(fields, scope.sets, set, field, stack)?;
+    push_over(fields, scope.sets, set, field, stack).map_err(|_| NoMemory)?;
     Ok(Operand::Pushed(Size {
         rows: rows as usize,
         columns: 1,

@@ -45,13 +45,13 @@ fn with_field_of(
     mut sets: Sets,
     set: u32,
     field: u32,
-    value: &Value,
+    value: Value,
 ) -> Result<Sets, NoMemory>
-    ensures { IfOk result (λ after. after ≡ slice_set sets set (fields.with_field (set_fields program.now set) (set_at sets set) field value.now.words)) }
+    ensures { IfOk result (λ after. after ≡ slice_set sets set (fields.with_field (set_fields program.now set) (set_at sets set) field value.words)) }
 {
     let element = element_in(program.sets.items(), set);
     let fields = fields_of(program.elements.items(), element);
-    with_field(alloc, fields, &mut sets, set, field, value.words.items())?;
+    with_field(alloc, fields, &mut sets, set, field, value.words)?;
     Ok(sets)
 }
 
@@ -74,7 +74,7 @@ fn assigned(
             turns: state.turns,
         }),
         TypedTarget::Field { set, field } => {
-            let sets = with_field_of(alloc, program, state.sets, set, field, &value)?;
+            let sets = with_field_of(alloc, program, state.sets, set, field, value)?;
             Ok(State {
                 sets,
                 variables: state.variables,

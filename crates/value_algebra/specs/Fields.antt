@@ -1,31 +1,25 @@
 -- Fields of sets as values.
 use Rattle.std.specs.Prelude.{◌≡◌, ℕ, ◌+◌, ◌*◌, ◌<◌, List, [], ◌∷◌, length, map, take, slice_get, slice_index, slice_index_or, Option, Some, None}
 use Rattle.std.specs.List.{flat_map, range_with_len, sum_by}
+use Rattle.std.specs.Option.{option_map_or}
 use Rattle.hypergraph.specs.SetValue.{SetValue, column_at, with_column}
 use Rattle.type_rules.specs.declared.types.BlockShape.{BlockShape}
 use Rattle.type_rules.specs.declared.types.BlockShape.TheVariants.{Number}
 use Rattle.typed_tree.specs.Cost.{entries_in}
+use Rattle.typed_tree.specs.Lookups.{fields_at}
 use Rattle.typed_tree.specs.declared.program.ElementType.{ElementType}
 use Rattle.typed_tree.specs.declared.program.TypedField.{TypedField}
 use Rattle.typed_tree.specs.declared.program.TypedSet.{TypedSet}
 use Rattle.value_algebra.specs.declared.value.Value.{Value}
 use Rattle.value_algebra.specs.Value.{block_value}
 
-abbrev pub fields_in : Option ElementType → List TypedField
-fields_in None = []
-fields_in (Some element) = element.fields
-
 -- the fields of an element type
 abbrev pub fields_of : List ElementType → ℕ → List TypedField
-fields_of elements element = fields_in (slice_get elements element)
-
-abbrev pub type_in : Option TypedSet → ℕ
-type_in None = 0
-type_in (Some set) = set.shape.element
+fields_of elements element = fields_at (slice_get elements element)
 
 -- the type of the elements of a set
 abbrev pub element_in : List TypedSet → ℕ → ℕ
-element_in sets set = type_in (slice_get sets set)
+element_in sets set = option_map_or (λ s. s.shape.element) (slice_get sets set) 0
 
 -- the columns that stand before a field's
 abbrev pub first_column : List TypedField → ℕ → ℕ

@@ -44,6 +44,10 @@ both join left right = record {
 
 -- ---- products
 
+-- words in rows of so many columns; how many rows there are says nothing of a single word
+abbrev pub in_rows : ℕ → List ℕ → Value
+in_rows columns words = record { rows = 0; columns = columns; words = words }
+
 -- the sum, in whole numbers, of the products of a row of one and a column of another
 abbrev pub row_times_column : Value → Value → ℕ → ℕ → ℕ
 row_times_column left right row column = sum_by (λ middle. word_at left row middle * word_at right middle column) (range_with_len 0 left.columns)

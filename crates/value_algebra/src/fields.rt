@@ -1,6 +1,6 @@
 //! Fields of sets as values.
 
-ghost use Rattle.std.specs.Prelude.{◌≡◌, ℕ, ◌+◌, ◌++◌, ◌≤◌, IfOk, OnErr, OnOk, fold, length, map, min, slice_set, take};
+ghost use Rattle.std.specs.Prelude.{◌≡◌, ℕ, ◌+◌, ◌++◌, ◌≤◌, IfOk, OnErr, OnOk, fold, length, map, min, slice_index, slice_set, take};
 ghost use Rattle.std.specs.List.{flat_map, range_with_len};
 ghost use Rattle.hypergraph.specs.SetValue.{column_at, with_column};
 ghost use Rattle.hypergraph.specs.Sets.{set_at};
@@ -11,6 +11,7 @@ ghost use Rattle.value_algebra.specs.declared.fields.TheConstants.{PAST_COLUMNS}
 
 use crate::value::{Value, entry};
 use hypergraph::Sets;
+use loop_laws::row_laws;
 use std::alloc::{AllocError, Global};
 use type_rules::BlockShape;
 use typed_tree::{ElementType, TypedField, TypedSet};
@@ -21,6 +22,7 @@ use vocabulary::{L, NoMemory};
 pub const PAST_COLUMNS: u64 = 64;
 
 /// The fields of an element type; none where there is no such type.
+#[inline]
 pub fn fields_of(elements: &[ElementType], element: u32) -> &[TypedField]
     ensures { result.now ≡ spec.fields_of elements.now element }
 {
@@ -31,6 +33,7 @@ pub fn fields_of(elements: &[ElementType], element: u32) -> &[TypedField]
 }
 
 /// The type of the elements of a set; 0 where there is no such set.
+#[inline]
 pub fn element_in(sets: &[TypedSet], set: u32) -> u32
     ensures { result ≡ spec.element_in sets.now set }
 {
@@ -41,6 +44,7 @@ pub fn element_in(sets: &[TypedSet], set: u32) -> u32
 }
 
 /// How many words a block has.
+#[inline]
 pub fn entries(block: BlockShape) -> u64
     ensures { result ≡ entries_in block }
 {
@@ -52,6 +56,7 @@ pub fn entries(block: BlockShape) -> u64
 }
 
 /// The block of a field; a number where there is no such field.
+#[inline]
 pub fn block_of(fields: &[TypedField], field: u32) -> BlockShape
     ensures { result ≡ spec.block_of fields.now field }
 {
@@ -62,6 +67,7 @@ pub fn block_of(fields: &[TypedField], field: u32) -> BlockShape
 }
 
 /// A column's number with more columns before it, cut down to the first that no set has.
+#[inline]
 fn further(column: u64, more: u64) -> u64
     ensures { result ≡ min (column + more) PAST_COLUMNS }
 {
@@ -69,6 +75,7 @@ fn further(column: u64, more: u64) -> u64
 }
 
 /// The columns that stand before those of a field, as many as a set may have.
+#[inline]
 fn columns_before(fields: &[TypedField], field: u32) -> u64
     ensures { result ≡ fold (λ before f. min (before + entries_in f.block) PAST_COLUMNS) 0 (take field fields.now) }
 {
@@ -79,6 +86,7 @@ fn columns_before(fields: &[TypedField], field: u32) -> u64
 }
 
 /// The first column of a field, cut down to the first that no set has.
+#[inline]
 pub fn first_column(fields: &[TypedField], field: u32) -> u64
     ensures { result ≡ min (spec.first_column fields.now field) PAST_COLUMNS }
 {
@@ -86,6 +94,7 @@ pub fn first_column(fields: &[TypedField], field: u32) -> u64
 }
 
 /// The words of a column; none where there is no such column. The column's number is cut down to the first that no set has.
+#[inline]
 #[tactic(auto, using(std::proofs::lemmas::List::get_or_past))]
 fn column(sets: &Sets, set: u32, column: u64) -> &[u64]
     ensures { (number : ℕ) → min number PAST_COLUMNS ≡ column → result.now ≡ column_at (set_at sets.now set) number }
@@ -98,6 +107,7 @@ fn column(sets: &Sets, set: u32, column: u64) -> &[u64]
 }
 
 /// How many elements a set has; 0 where there is no such set.
+#[inline]
 #[tactic(auto, using(std::proofs::lemmas::List::get_or_past))]
 pub fn count(sets: &Sets, set: u32) -> u32
     ensures { result ≡ (set_at sets.now set).count }
@@ -106,6 +116,7 @@ pub fn count(sets: &Sets, set: u32) -> u32
 }
 
 /// The word of an element in a column, as many past the first of a field; 0 where there is none.
+#[inline]
 pub fn entry_of(sets: &Sets, set: u32, element: usize, first: u64, component: u64) -> u64
     ensures { (number : ℕ) → min number PAST_COLUMNS ≡ first → result ≡ spec.entry_of (set_at sets.now set) element (number + component) }
 {
@@ -114,7 +125,7 @@ pub fn entry_of(sets: &Sets, set: u32, element: usize, first: u64, component: u6
 }
 
 /// Appends the words of a field at an element.
-#[tactic(auto, using(crate::proofs::Rows::row_begun, crate::proofs::Rows::row_grown))]
+#[inline]
 pub fn push_element(
     fields: &[TypedField],
     sets: &Sets,
@@ -125,6 +136,7 @@ pub fn push_element(
 ) -> Result<(), AllocError>
     ensures { OnOk result (words.new.items ≡ words.old.items ++ spec.element_words fields.now (set_at sets.now set) field element) }
 {
+    row_laws::<u64>();
     let first = first_column(fields, field);
     for component in 0..entries(block_of(fields, field)) {
         words.push(entry_of(sets, set, element, first, component))?;
@@ -132,22 +144,77 @@ pub fn push_element(
     Ok(())
 }
 
-/// The words of a field over a set.
-#[tactic(auto, using(crate::proofs::Rows::rows_grown))]
-fn words_over(
+/// The columns of a set from one on, so many of them.
+fn columns_from<'a>(
     alloc: Global,
+    sets: &'a Sets,
+    set: u32,
+    first: u64,
+    size: u64,
+) -> Result<Vec<&'a [u64]>, AllocError>
+    ensures { (number : ℕ) → min number PAST_COLUMNS ≡ first → IfOk result (λ columns. map (λ words. words.now) columns.items ≡ map (λ component. column_at (set_at sets.now set) (number + component)) (range_with_len 0 size)) }
+{
+    let mut columns = Vec::new(alloc);
+    for component in 0..size {
+        columns.push(column(sets, set, further(first, component)))?;
+    }
+    Ok(columns)
+}
+
+/// Appends the words of an element in several columns.
+fn push_entries(columns: &[&[u64]], element: usize, words: &mut Vec<u64>) -> Result<(), AllocError>
+    ensures { OnOk result (words.new.items ≡ words.old.items ++ map (λ column. slice_index column.now element) columns.now) }
+{
+    for column in columns {
+        words.push(column.get(element).copied().unwrap_or(0))?;
+    }
+    Ok(())
+}
+
+/// Appends the words in several columns, element after element.
+fn push_rows(columns: &[&[u64]], count: u32, words: &mut Vec<u64>) -> Result<(), AllocError>
+    ensures { OnOk result (words.new.items ≡ words.old.items ++ flat_map (λ element. map (λ column. slice_index column.now element) columns.now) (range_with_len 0 count)) }
+{
+    row_laws::<u64>();
+    for element in 0..count as usize {
+        push_entries(columns, element, words)?;
+    }
+    Ok(())
+}
+
+/// Appends the words of a field over a set, out of the columns from one on.
+fn push_columns(
+    sets: &Sets,
+    set: u32,
+    first: u64,
+    size: u64,
+    words: &mut Vec<u64>,
+) -> Result<(), AllocError>
+    ensures { (number : ℕ) → min number PAST_COLUMNS ≡ first → OnOk result (words.new.items ≡ words.old.items ++ flat_map (λ element. map (λ component. spec.entry_of (set_at sets.now set) element (number + component)) (range_with_len 0 size)) (range_with_len 0 (set_at sets.now set).count)) }
+{
+    let columns = columns_from(*words.allocator(), sets, set, first, size)?;
+    push_rows(&columns, count(sets, set), words)
+}
+
+/// Appends the words of a field over a set. Where a column has them all, they are its words.
+#[tactic(auto, using(crate::proofs::Columns::column_over))]
+pub fn push_over(
     fields: &[TypedField],
     sets: &Sets,
     set: u32,
     field: u32,
-) -> Result<Vec<u64>, AllocError>
-    ensures { IfOk result (λ words. words.items ≡ flat_map (spec.element_words fields.now (set_at sets.now set) field) (range_with_len 0 (set_at sets.now set).count)) }
+    words: &mut Vec<u64>,
+) -> Result<(), AllocError>
+    ensures { OnOk result (words.new.items ≡ words.old.items ++ flat_map (spec.element_words fields.now (set_at sets.now set) field) (range_with_len 0 (set_at sets.now set).count)) }
 {
-    let mut words = Vec::new(alloc);
-    for element in 0..count(sets, set) as usize {
-        push_element(fields, sets, set, field, element, &mut words)?;
+    let first = first_column(fields, field);
+    let size = entries(block_of(fields, field));
+    let whole = column(sets, set, first);
+    if size == 1 && whole.len() == count(sets, set) as usize {
+        words.extend_from_slice(whole)
+    } else {
+        push_columns(sets, set, first, size, words)
     }
-    Ok(words)
 }
 
 /// The words of a field at an element.
@@ -199,8 +266,9 @@ pub fn field_over(
     let Some(rows) = u64::from(count(sets, set)).checked_mul(size) else {
         return Err(NoMemory);
     };
-    match words_over(alloc, fields, sets, set, field) {
-        Ok(words) => Ok(Value {
+    let mut words = Vec::new(alloc);
+    match push_over(fields, sets, set, field, &mut words) {
+        Ok(()) => Ok(Value {
             rows: rows as usize,
             columns: 1,
             words: L::of(words),
@@ -242,6 +310,26 @@ fn columns_of(
     Ok(columns)
 }
 
+/// The columns of words that stand element after element; where there is one, it is these words.
+#[tactic(auto, using(crate::proofs::Columns::one_column, crate::proofs::Columns::one_length))]
+fn columns_made(
+    alloc: Global,
+    count: u32,
+    size: u64,
+    words: L<u64>,
+) -> Result<Vec<L<u64>>, AllocError>
+    ensures columns { IfOk result (λ columns. columns.items ≡ map (spec.column_words count size words) (range_with_len 0 size)) }
+    ensures lengths { IfOk result (λ columns. HaveLength count columns.items) }
+{
+    if size == 1 && words.items().len() == count as usize {
+        let mut columns = Vec::new(alloc);
+        columns.push(words)?;
+        Ok(columns)
+    } else {
+        columns_of(alloc, count, size, words.items())
+    }
+}
+
 /// Replaces a column by as many words, where there is such a column.
 #[tactic(auto, using(std::proofs::lemmas::List::get_or_past, std::proofs::lemmas::List::set_past))]
 fn set_column(sets: &mut Sets, set: u32, column: u64, words: L<u64>)
@@ -275,13 +363,13 @@ pub fn with_field(
     sets: &mut Sets,
     set: u32,
     field: u32,
-    words: &[u64],
+    words: L<u64>,
 ) -> Result<(), NoMemory>
-    ensures assigned { OnOk result (sets.new ≡ slice_set sets.old set (spec.with_field fields.now (set_at sets.old set) field words.now)) }
+    ensures assigned { OnOk result (sets.new ≡ slice_set sets.old set (spec.with_field fields.now (set_at sets.old set) field words)) }
     ensures unchanged { OnErr result (sets.new ≡ sets.old) }
 {
     let size = entries(block_of(fields, field));
-    match columns_of(alloc, count(sets, set), size, words) {
+    match columns_made(alloc, count(sets, set), size, words) {
         Ok(columns) => {
             set_columns(sets, set, first_column(fields, field), columns);
             Ok(())

@@ -10,9 +10,9 @@ mod words;
 
 pub use fields::{
     block_of, count, element_in, entries, entry_of, field_at, field_over, fields_of, first_column,
-    push_element, with_field,
+    push_element, push_over, with_field,
 };
-pub use products::{dot, product, sum_of_products, transposed};
+pub use products::{dot, product, row_times_column, sum_of_products, transposed};
 pub use scales::{quotient, rescaled, rescaled_word, square_root};
 pub use value::{Value, entry};
 pub use words::{difference, entrywise, negated, scaled, sum};

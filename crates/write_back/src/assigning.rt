@@ -10,7 +10,7 @@ use block_types::Typed;
 use hypergraph::Sets;
 use std::alloc::Global;
 use value_algebra::with_field;
-use vocabulary::NoMemory;
+use vocabulary::{L, NoMemory};
 
 /// Gives a field of a set other words, one block an element, each row by row: all of its columns at once. Out of memory
 /// nothing changes.
@@ -20,13 +20,13 @@ pub fn assign(
     typed: &Typed,
     set: u32,
     field: u32,
-    words: &[u64],
+    words: L<u64>,
 ) -> Result<(), NoMemory>
     requires set { set < length sets.old }
     requires field { field < length (set_fields typed.now set) }
-    requires words { length words.now ≡ (set_at sets.old set).count * width (set_fields typed.now set) field }
-    ensures assigned { OnOk result (sets.new ≡ slice_set sets.old set (fields.with_field (set_fields typed.now set) (set_at sets.old set) field words.now)) }
-    ensures columns { OnOk result (IsAssigned (set_fields typed.now set) field words.now (set_at sets.old set) (set_at sets.new set)) }
+    requires words { length words ≡ (set_at sets.old set).count * width (set_fields typed.now set) field }
+    ensures assigned { OnOk result (sets.new ≡ slice_set sets.old set (fields.with_field (set_fields typed.now set) (set_at sets.old set) field words)) }
+    ensures columns { OnOk result (IsAssigned (set_fields typed.now set) field words (set_at sets.old set) (set_at sets.new set)) }
     ensures unchanged { OnErr result (sets.new ≡ sets.old) }
 {
     with_field(alloc, typed.fields(set), sets, set, field, words)?;

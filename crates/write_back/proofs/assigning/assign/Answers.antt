@@ -9,5 +9,5 @@ pub returns-clause-columns : goal.returns-clause-columns
 returns-clause-columns c =
     let sets = c.args.sets.now in
     let set = c.args.set in
-    is_assigned sets c.with_field.new.sets set (set_fields c.args.typed.now set) c.args.field c.args.words.now c.requires.set
-    (c.in_ok-with_field.ensures.assigned ∙ ap (λ fs. slice_set sets set (fields.with_field fs (set_at sets set) c.args.field c.args.words.now)) c.fields.ensures)
+    is_assigned sets c.with_field.new.sets set (set_fields c.args.typed.now set) c.args.field c.args.words c.requires.set
+    (c.in_ok-with_field.ensures.assigned ∙ ap (λ fs. slice_set sets set (fields.with_field fs (set_at sets set) c.args.field c.args.words)) c.fields.ensures)
