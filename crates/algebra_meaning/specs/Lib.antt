@@ -3,3 +3,4 @@ pub mod Means
 pub mod Element
 pub mod Assembled
 pub mod Run
+pub mod Loops

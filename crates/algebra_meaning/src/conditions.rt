@@ -6,6 +6,7 @@ ghost use Rattle.algebra_meaning.specs.Expression as spec;
 ghost use Rattle.algebra_meaning.specs.Means.{Means};
 
 use crate::expression::meaning;
+use crate::laws::condition_laws;
 use crate::scope::Scope;
 use crate::stopped::Stopped;
 use ring_words::{TrapKind, less};
@@ -49,7 +50,7 @@ fn comparison(alloc: Global, cmp: &TypedCmp, scope: &Scope<'_>) -> Result<bool, 
 }
 
 /// Whether comparisons hold together, or the first trap.
-#[tactic(auto, unfolding(crate::specs::Expression::conjunction), using(crate::proofs::Comparisons::and_taken, crate::proofs::Comparisons::and_stopped, crate::proofs::Comparisons::and_ended))]
+#[tactic(auto, unfolding(crate::specs::Expression::conjunction))]
 fn conjunction(
     alloc: Global,
     conjunction: &TypedConjunction,
@@ -57,6 +58,7 @@ fn conjunction(
 ) -> Result<bool, Stopped<TrapKind>>
     ensures { Means (spec.conjunction scope.now conjunction.now) result }
 {
+    condition_laws::<TypedCmp>();
     let mut all = true;
     for cmp in conjunction.parts.as_slice() {
         let one = comparison(alloc, cmp, scope)?;
@@ -66,10 +68,11 @@ fn conjunction(
 }
 
 /// Whether a condition holds, or the first trap.
-#[tactic(auto, unfolding(crate::specs::Expression::holds), using(crate::proofs::Comparisons::or_taken, crate::proofs::Comparisons::or_stopped, crate::proofs::Comparisons::or_ended))]
+#[tactic(auto, unfolding(crate::specs::Expression::holds))]
 pub fn holds(alloc: Global, cond: &TypedCond, scope: &Scope<'_>) -> Result<bool, Stopped<TrapKind>>
     ensures { Means (spec.holds scope.now cond.now) result }
 {
+    condition_laws::<TypedConjunction>();
     let mut any = false;
     for part in cond.parts.as_slice() {
         let one = conjunction(alloc, part, scope)?;

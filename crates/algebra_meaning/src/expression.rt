@@ -5,6 +5,7 @@ ghost use Rattle.type_rules.specs.Types.{scale_of};
 ghost use Rattle.algebra_meaning.specs.Expression as spec;
 ghost use Rattle.algebra_meaning.specs.Means.{Means};
 
+use crate::laws::expression_laws;
 use crate::parts::{added, block_in, found, last_value, multiplied, or_trap, push_words};
 use crate::references::referred;
 use crate::scope::Scope;
@@ -75,7 +76,6 @@ fn form_meaning(
 
 /// The values of expressions, one after the other, or the first trap.
 #[cycle(expression)]
-#[tactic(auto, using(crate::proofs::Chains::value_taken, crate::proofs::Chains::value_stopped, crate::proofs::Chains::values_ended))]
 pub fn meanings(
     alloc: Global,
     expressions: &[TypedExpr],
@@ -83,6 +83,7 @@ pub fn meanings(
 ) -> Result<L<Value>, Stopped<TrapKind>>
     ensures { Means (spec.meanings scope.now expressions.now) result }
 {
+    expression_laws();
     let mut values = L::empty(alloc);
     for e in expressions {
         let value = meaning(alloc, e, scope)?;
@@ -93,10 +94,10 @@ pub fn meanings(
 
 /// The entries of rows of a block, one row after the other.
 #[cycle(expression)]
-#[tactic(auto, using(crate::proofs::Chains::row_taken, crate::proofs::Chains::row_stopped, crate::proofs::Chains::rows_ended))]
 fn entries(alloc: Global, rows: &[TypedRow], scope: &Scope<'_>) -> Result<L<u64>, Stopped<TrapKind>>
     ensures { Means (spec.entries (map (spec.row_of scope.now) rows.now)) result }
 {
+    expression_laws();
     let mut words = L::empty(alloc);
     for row in rows {
         let values = meanings(alloc, row.entries.as_slice(), scope)?;
@@ -122,7 +123,6 @@ fn written(
 
 /// The total of terms; none where there are none.
 #[cycle(expression)]
-#[tactic(auto, using(crate::proofs::Chains::term_taken, crate::proofs::Chains::term_stopped, crate::proofs::Chains::terms_ended))]
 fn total(
     alloc: Global,
     terms: &[TypedTerm],
@@ -130,6 +130,7 @@ fn total(
 ) -> Result<Option<Value>, Stopped<TrapKind>>
     ensures { Means (spec.total (map (spec.term_of scope.now) terms.now)) result }
 {
+    expression_laws();
     let mut total = None;
     for term in terms {
         let value = meaning(alloc, &term.value, scope)?;
@@ -150,7 +151,6 @@ fn sum(alloc: Global, terms: &[TypedTerm], scope: &Scope<'_>) -> Result<Value, S
 
 /// The product of factors with its type; none where there are none.
 #[cycle(expression)]
-#[tactic(auto, using(crate::proofs::Chains::factor_taken, crate::proofs::Chains::factor_stopped, crate::proofs::Chains::factors_ended))]
 fn chain(
     alloc: Global,
     factors: &[TypedFactor],
@@ -158,6 +158,7 @@ fn chain(
 ) -> Result<Option<(NodeType, Value)>, Stopped<TrapKind>>
     ensures { Means (spec.chain (map (spec.factor_of scope.now) factors.now)) result }
 {
+    expression_laws();
     let mut so_far = None;
     for factor in factors {
         let value = meaning(alloc, &factor.value, scope)?;

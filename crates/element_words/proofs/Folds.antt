@@ -13,8 +13,8 @@ use Rattle.value_algebra.specs.Value.{word_of}
 use Rattle.algebra_meaning.specs.declared.stopped.Stopped.{Stopped}
 use Rattle.algebra_meaning.specs.declared.stopped.Stopped.TheVariants.{By}
 use Rattle.algebra_meaning.specs.Expression.{Meant, Scope, added, factor_of, meaning, meanings, multiplied, part_of, row_of, term_of, with_factor, with_row, with_term, with_value}
-use Rattle.algebra_meaning.proofs.Chains.{factor_taken, factor_stopped, row_taken, row_stopped, term_taken, term_stopped}
-use Rattle.algebra_meaning.proofs.Loops.{item_taken, item_refused, items_ended}
+use Rattle.algebra_meaning.specs.Loops.{ExpressionLaws}
+use Rattle.loop_laws.specs.Loops.{ItemLaws}
 use Rattle.element_words.specs.declared.indices.Indices.{Indices}
 use Rattle.element_words.specs.declared.indices.Indices.TheVariants.{Whole}
 use Rattle.element_words.specs.References.{first_meant, indices_of, with_index}
@@ -32,54 +32,54 @@ stopped_of (Err trap) g kind is = let same : trap ≡ kind = cc in ap (λ t. Err
 
 -- ---- terms and factors
 
-pub term_added : (scope : Scope) (total : Option Value) (next : Value) (known : Result (Option Value) TrapKind) (ts : List TypedTerm) (i : ℕ) (t : TypedTerm)
+pub term_added : ExpressionLaws → (scope : Scope) (total : Option Value) (next : Value) (known : Result (Option Value) TrapKind) (ts : List TypedTerm) (i : ℕ) (t : TypedTerm)
     → i < length ts → t ≡ get_or ts i t → added_meant total t.minus (meaning scope t.value) ≡ Ok next
     → fold_result with_term total (map (term_of scope) (drop i ts)) ≡ known → fold_result with_term (Some next) (map (term_of scope) (drop (i + 1) ts)) ≡ known
 unfolding added_meant
-term_added scope total next known ts i t below here is so_far =
+term_added laws scope total next known ts i t below here is so_far =
     let found : (v : Value) × (meaning scope t.value ≡ Ok v) × (next ≡ added total t.minus v) = meant_of (meaning scope t.value) (added total t.minus) next is in
-    term_taken scope total next found.0 known ts i t below here found.1 found.2 so_far
+    laws.term_taken scope total next found.0 known ts i t below here found.1 found.2 so_far
 
-pub term_refused : (scope : Scope) (total : Option Value) (known : Result (Option Value) TrapKind) (ts : List TypedTerm) (i : ℕ) (t : TypedTerm) (stopped : Stopped TrapKind)
+pub term_refused : ExpressionLaws → (scope : Scope) (total : Option Value) (known : Result (Option Value) TrapKind) (ts : List TypedTerm) (i : ℕ) (t : TypedTerm) (stopped : Stopped TrapKind)
     → i < length ts → t ≡ get_or ts i t → ((kind : TrapKind) → stopped ≡ By kind → added_meant total t.minus (meaning scope t.value) ≡ Err kind)
     → fold_result with_term total (map (term_of scope) (drop i ts)) ≡ known → (kind : TrapKind) → stopped ≡ By kind → known ≡ Err kind
 unfolding added_meant
-term_refused scope total known ts i t stopped below here stops so_far =
-    term_stopped scope total known ts i t stopped below here (λ kind is. stopped_of (meaning scope t.value) (added total t.minus) kind (stops kind is)) so_far
+term_refused laws scope total known ts i t stopped below here stops so_far =
+    laws.term_stopped scope total known ts i t stopped below here (λ kind is. stopped_of (meaning scope t.value) (added total t.minus) kind (stops kind is)) so_far
 
-pub factor_multiplied : (scope : Scope) (product : Option (NodeType × Value)) (next : Value) (known : Result (Option (NodeType × Value)) TrapKind) (fs : List TypedFactor) (i : ℕ) (f : TypedFactor)
+pub factor_multiplied : ExpressionLaws → (scope : Scope) (product : Option (NodeType × Value)) (next : Value) (known : Result (Option (NodeType × Value)) TrapKind) (fs : List TypedFactor) (i : ℕ) (f : TypedFactor)
     → i < length fs → f ≡ get_or fs i f → multiplied_meant product f.entrywise f.value.node.value_type (meaning scope f.value) ≡ Ok next
     → fold_result with_factor product (map (factor_of scope) (drop i fs)) ≡ known
     → fold_result with_factor (Some (f.node.value_type, next)) (map (factor_of scope) (drop (i + 1) fs)) ≡ known
 unfolding multiplied_meant
-factor_multiplied scope product next known fs i f below here is so_far =
+factor_multiplied laws scope product next known fs i f below here is so_far =
     let g : Value → Value = multiplied product f.entrywise f.value.node.value_type in
     let found : (v : Value) × (meaning scope f.value ≡ Ok v) × (next ≡ g v) = meant_of (meaning scope f.value) g next is in
-    factor_taken scope product next found.0 known fs i f below here found.1 found.2 so_far
+    laws.factor_taken scope product next found.0 known fs i f below here found.1 found.2 so_far
 
-pub factor_refused : (scope : Scope) (product : Option (NodeType × Value)) (known : Result (Option (NodeType × Value)) TrapKind) (fs : List TypedFactor) (i : ℕ) (f : TypedFactor) (stopped : Stopped TrapKind)
+pub factor_refused : ExpressionLaws → (scope : Scope) (product : Option (NodeType × Value)) (known : Result (Option (NodeType × Value)) TrapKind) (fs : List TypedFactor) (i : ℕ) (f : TypedFactor) (stopped : Stopped TrapKind)
     → i < length fs → f ≡ get_or fs i f → ((kind : TrapKind) → stopped ≡ By kind → multiplied_meant product f.entrywise f.value.node.value_type (meaning scope f.value) ≡ Err kind)
     → fold_result with_factor product (map (factor_of scope) (drop i fs)) ≡ known → (kind : TrapKind) → stopped ≡ By kind → known ≡ Err kind
 unfolding multiplied_meant
-factor_refused scope product known fs i f stopped below here stops so_far =
-    factor_stopped scope product known fs i f stopped below here (λ kind is. stopped_of (meaning scope f.value) (multiplied product f.entrywise f.value.node.value_type) kind (stops kind is)) so_far
+factor_refused laws scope product known fs i f stopped below here stops so_far =
+    laws.factor_stopped scope product known fs i f stopped below here (λ kind is. stopped_of (meaning scope f.value) (multiplied product f.entrywise f.value.node.value_type) kind (stops kind is)) so_far
 
 -- ---- rows
 
-pub words_taken : (scope : Scope) (words grown row : List ℕ) (known : Result (List ℕ) TrapKind) (rs : List TypedRow) (i : ℕ) (r : TypedRow)
+pub words_taken : ExpressionLaws → (scope : Scope) (words grown row : List ℕ) (known : Result (List ℕ) TrapKind) (rs : List TypedRow) (i : ℕ) (r : TypedRow)
     → i < length rs → r ≡ get_or rs i r → words_meant (meanings scope (out-TypedRow r).entries) ≡ Ok row → grown ≡ words ++ row
     → fold_result with_row words (map (row_of scope) (drop i rs)) ≡ known → fold_result with_row grown (map (row_of scope) (drop (i + 1) rs)) ≡ known
 unfolding words_meant
-words_taken scope words grown row known rs i r below here is more so_far =
+words_taken laws scope words grown row known rs i r below here is more so_far =
     let found : (vs : List Value) × (meanings scope (out-TypedRow r).entries ≡ Ok vs) × (row ≡ map word_of vs) = meant_of (meanings scope (out-TypedRow r).entries) (map word_of) row is in
-    row_taken scope words grown found.0 known rs i r below here found.1 (more ∙ ap (λ l. words ++ l) found.2) so_far
+    laws.row_taken scope words grown found.0 known rs i r below here found.1 (more ∙ ap (λ l. words ++ l) found.2) so_far
 
-pub words_stopped : (scope : Scope) (words : List ℕ) (known : Result (List ℕ) TrapKind) (rs : List TypedRow) (i : ℕ) (r : TypedRow) (stopped : Stopped TrapKind)
+pub words_stopped : ExpressionLaws → (scope : Scope) (words : List ℕ) (known : Result (List ℕ) TrapKind) (rs : List TypedRow) (i : ℕ) (r : TypedRow) (stopped : Stopped TrapKind)
     → i < length rs → r ≡ get_or rs i r → ((kind : TrapKind) → stopped ≡ By kind → words_meant (meanings scope (out-TypedRow r).entries) ≡ Err kind)
     → fold_result with_row words (map (row_of scope) (drop i rs)) ≡ known → (kind : TrapKind) → stopped ≡ By kind → known ≡ Err kind
 unfolding words_meant
-words_stopped scope words known rs i r stopped below here stops so_far =
-    row_stopped scope words known rs i r stopped below here (λ kind is. stopped_of (meanings scope (out-TypedRow r).entries) (map word_of) kind (stops kind is)) so_far
+words_stopped laws scope words known rs i r stopped below here stops so_far =
+    laws.row_stopped scope words known rs i r stopped below here (λ kind is. stopped_of (meanings scope (out-TypedRow r).entries) (map word_of) kind (stops kind is)) so_far
 
 -- ---- the words of several expressions
 
@@ -113,21 +113,21 @@ pub indices_begun : (scope : Scope) (es : List TypedExpr)
 unfolding indices_meant
 indices_begun scope es = by_words scope indices_of with_index index_more [] es
 
-pub index_taken : (scope : Scope) (so_far next : Indices) (w : ℕ) (known : Result Indices TrapKind) (es : List TypedExpr) (i : ℕ) (e : TypedExpr)
+pub index_taken : ItemLaws Indices TypedExpr TrapKind → (scope : Scope) (so_far next : Indices) (w : ℕ) (known : Result Indices TrapKind) (es : List TypedExpr) (i : ℕ) (e : TypedExpr)
     → i < length es → e ≡ get_or es i e → first_meant (meaning scope e) ≡ Ok w → next ≡ with_index so_far w
     → fold_result (stepped with_index) so_far (map (first_of scope) (drop i es)) ≡ known → fold_result (stepped with_index) next (map (first_of scope) (drop (i + 1) es)) ≡ known
-index_taken scope so_far next w known es i e below here is gives =
-    item_taken (stepped with_index) (first_of scope) so_far next known es i e below here (ap (stepped with_index so_far) is ∙ ap Ok (sym gives))
+index_taken laws scope so_far next w known es i e below here is gives =
+    laws.taken (λ start es. fold_result (stepped with_index) start (map (first_of scope) es)) (λ start e. stepped with_index start (first_of scope e)) (record { ends = λ start. refl; goes_on = λ start e es. refl }) so_far next known es i e below here (ap (stepped with_index so_far) is ∙ ap Ok (sym gives))
 
-pub index_stopped : (scope : Scope) (so_far : Indices) (known : Result Indices TrapKind) (es : List TypedExpr) (i : ℕ) (e : TypedExpr) (stopped : Stopped TrapKind)
+pub index_stopped : ItemLaws Indices TypedExpr TrapKind → (scope : Scope) (so_far : Indices) (known : Result Indices TrapKind) (es : List TypedExpr) (i : ℕ) (e : TypedExpr) (stopped : Stopped TrapKind)
     → i < length es → e ≡ get_or es i e → ((kind : TrapKind) → stopped ≡ By kind → first_meant (meaning scope e) ≡ Err kind)
     → fold_result (stepped with_index) so_far (map (first_of scope) (drop i es)) ≡ known → (kind : TrapKind) → stopped ≡ By kind → known ≡ Err kind
-index_stopped scope so_far known es i e stopped below here stops folded kind is =
-    item_refused (stepped with_index) (first_of scope) so_far known es i e kind below here (ap (stepped with_index so_far) (stops kind is)) folded
+index_stopped laws scope so_far known es i e stopped below here stops folded kind is =
+    laws.refused (λ start es. fold_result (stepped with_index) start (map (first_of scope) es)) (λ start e. stepped with_index start (first_of scope e)) (record { ends = λ start. refl; goes_on = λ start e es. refl }) so_far known es i e kind below here (ap (stepped with_index so_far) (stops kind is)) folded
 
-pub indices_ended : (scope : Scope) (so_far : Indices) (known : Result Indices TrapKind) (es : List TypedExpr) (i : ℕ)
+pub indices_ended : ItemLaws Indices TypedExpr TrapKind → (scope : Scope) (so_far : Indices) (known : Result Indices TrapKind) (es : List TypedExpr) (i : ℕ)
     → length es ≤ i → fold_result (stepped with_index) so_far (map (first_of scope) (drop i es)) ≡ known → known ≡ Ok so_far
-indices_ended scope so_far known es i past folded = items_ended (stepped with_index) (first_of scope) so_far known es i past folded
+indices_ended laws scope so_far known es i past folded = laws.ended (λ start es. fold_result (stepped with_index) start (map (first_of scope) es)) (λ start e. stepped with_index start (first_of scope e)) (record { ends = λ start. refl; goes_on = λ start e es. refl }) so_far known es i past folded
 
 -- entries
 abbrev pub with_word : List ℕ → ℕ → List ℕ
@@ -141,18 +141,18 @@ pub entries_begun : (scope : Scope) (es : List TypedExpr)
 unfolding words_meant
 entries_begun scope es = by_words scope (map word_of) with_word entry_more [] es
 
-pub entry_taken : (scope : Scope) (so_far next : List ℕ) (w : ℕ) (known : Result (List ℕ) TrapKind) (es : List TypedExpr) (i : ℕ) (e : TypedExpr)
+pub entry_taken : ItemLaws (List ℕ) TypedExpr TrapKind → (scope : Scope) (so_far next : List ℕ) (w : ℕ) (known : Result (List ℕ) TrapKind) (es : List TypedExpr) (i : ℕ) (e : TypedExpr)
     → i < length es → e ≡ get_or es i e → first_meant (meaning scope e) ≡ Ok w → next ≡ so_far ++ w ∷ []
     → fold_result (stepped with_word) so_far (map (first_of scope) (drop i es)) ≡ known → fold_result (stepped with_word) next (map (first_of scope) (drop (i + 1) es)) ≡ known
-entry_taken scope so_far next w known es i e below here is gives =
-    item_taken (stepped with_word) (first_of scope) so_far next known es i e below here (ap (stepped with_word so_far) is ∙ ap Ok (sym gives))
+entry_taken laws scope so_far next w known es i e below here is gives =
+    laws.taken (λ start es. fold_result (stepped with_word) start (map (first_of scope) es)) (λ start e. stepped with_word start (first_of scope e)) (record { ends = λ start. refl; goes_on = λ start e es. refl }) so_far next known es i e below here (ap (stepped with_word so_far) is ∙ ap Ok (sym gives))
 
-pub entry_stopped : (scope : Scope) (so_far : List ℕ) (known : Result (List ℕ) TrapKind) (es : List TypedExpr) (i : ℕ) (e : TypedExpr) (stopped : Stopped TrapKind)
+pub entry_stopped : ItemLaws (List ℕ) TypedExpr TrapKind → (scope : Scope) (so_far : List ℕ) (known : Result (List ℕ) TrapKind) (es : List TypedExpr) (i : ℕ) (e : TypedExpr) (stopped : Stopped TrapKind)
     → i < length es → e ≡ get_or es i e → ((kind : TrapKind) → stopped ≡ By kind → first_meant (meaning scope e) ≡ Err kind)
     → fold_result (stepped with_word) so_far (map (first_of scope) (drop i es)) ≡ known → (kind : TrapKind) → stopped ≡ By kind → known ≡ Err kind
-entry_stopped scope so_far known es i e stopped below here stops folded kind is =
-    item_refused (stepped with_word) (first_of scope) so_far known es i e kind below here (ap (stepped with_word so_far) (stops kind is)) folded
+entry_stopped laws scope so_far known es i e stopped below here stops folded kind is =
+    laws.refused (λ start es. fold_result (stepped with_word) start (map (first_of scope) es)) (λ start e. stepped with_word start (first_of scope e)) (record { ends = λ start. refl; goes_on = λ start e es. refl }) so_far known es i e kind below here (ap (stepped with_word so_far) (stops kind is)) folded
 
-pub entries_ended : (scope : Scope) (so_far : List ℕ) (known : Result (List ℕ) TrapKind) (es : List TypedExpr) (i : ℕ)
+pub entries_ended : ItemLaws (List ℕ) TypedExpr TrapKind → (scope : Scope) (so_far : List ℕ) (known : Result (List ℕ) TrapKind) (es : List TypedExpr) (i : ℕ)
     → length es ≤ i → fold_result (stepped with_word) so_far (map (first_of scope) (drop i es)) ≡ known → known ≡ Ok so_far
-entries_ended scope so_far known es i past folded = items_ended (stepped with_word) (first_of scope) so_far known es i past folded
+entries_ended laws scope so_far known es i past folded = laws.ended (λ start es. fold_result (stepped with_word) start (map (first_of scope) es)) (λ start e. stepped with_word start (first_of scope e)) (record { ends = λ start. refl; goes_on = λ start e es. refl }) so_far known es i past folded

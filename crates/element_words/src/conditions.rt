@@ -7,7 +7,7 @@ ghost use Rattle.algebra_meaning.specs.Means.{Means};
 
 use crate::expression::word;
 use crate::words::Words;
-use algebra_meaning::{Stopped, held};
+use algebra_meaning::{Stopped, condition_laws, held};
 use ring_words::TrapKind;
 use typed_tree::{TypedCmp, TypedCond, TypedConjunction};
 
@@ -27,7 +27,7 @@ fn comparison(
 }
 
 /// Whether comparisons hold together, or the first trap.
-#[tactic(auto, unfolding(algebra_meaning::specs::Expression::conjunction), using(algebra_meaning::proofs::Comparisons::and_taken, algebra_meaning::proofs::Comparisons::and_stopped, algebra_meaning::proofs::Comparisons::and_ended))]
+#[tactic(auto, unfolding(algebra_meaning::specs::Expression::conjunction))]
 fn conjunction(
     conjunction: &TypedConjunction,
     scope: &Words<'_>,
@@ -36,6 +36,7 @@ fn conjunction(
     ensures value { Means (meaning.conjunction scope.now conjunction.now) result }
     ensures kept { OnOk result (stack.new.items ≡ stack.old.items) }
 {
+    condition_laws::<TypedCmp>();
     let mut all = true;
     for cmp in conjunction.parts.as_slice() {
         let one = comparison(cmp, scope, stack)?;
@@ -45,7 +46,7 @@ fn conjunction(
 }
 
 /// Whether a condition holds, or the first trap. The stack is as before unless there is a trap, or memory runs out.
-#[tactic(auto, unfolding(algebra_meaning::specs::Expression::holds), using(algebra_meaning::proofs::Comparisons::or_taken, algebra_meaning::proofs::Comparisons::or_stopped, algebra_meaning::proofs::Comparisons::or_ended))]
+#[tactic(auto, unfolding(algebra_meaning::specs::Expression::holds))]
 pub fn holds(
     cond: &TypedCond,
     scope: &Words<'_>,
@@ -54,6 +55,7 @@ pub fn holds(
     ensures value { Means (meaning.holds scope.now cond.now) result }
     ensures kept { OnOk result (stack.new.items ≡ stack.old.items) }
 {
+    condition_laws::<TypedConjunction>();
     let mut any = false;
     for part in cond.parts.as_slice() {
         let one = conjunction(part, scope, stack)?;

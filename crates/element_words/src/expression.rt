@@ -16,10 +16,12 @@ use crate::slices::Change;
 use crate::stack::{change, dot, push, settle};
 use crate::steps::{added, divided, found, last, multiplied, rooted};
 use crate::words::Words;
-use algebra_meaning::{Stopped, block_in};
+use algebra_meaning::{Stopped, block_in, expression_laws};
+use loop_laws::item_laws;
 use ring_words::TrapKind;
 use type_rules::{NodeType, scale_of};
 use typed_tree::{TypedExpr, TypedFactor, TypedForm, TypedRow, TypedTerm};
+use vocabulary::L;
 
 /// What an expression means: a number, or words on the stack; or the first trap.
 #[cycle(expression)]
@@ -110,6 +112,7 @@ fn indices(
     ensures value { Means (steps.indices_meant (meaning.meanings scope.now expressions.now)) result }
     ensures kept { OnOk result (stack.new.items ≡ stack.old.items) }
 {
+    item_laws::<Indices, TypedExpr, TrapKind>();
     let mut indices = Indices::Whole;
     for e in expressions {
         let index = word(e, scope, stack)?;
@@ -129,6 +132,7 @@ fn push_row(
     ensures value { steps.Pushes (steps.words_meant (meaning.meanings scope.now expressions.now)) result (drop (length stack.old.items) stack.new.items) }
     ensures kept { OnOk result (take (length stack.old.items) stack.new.items ≡ stack.old.items) }
 {
+    item_laws::<L<u64>, TypedExpr, TrapKind>();
     for e in expressions {
         let word = word(e, scope, stack)?;
         push(word, stack)?;
@@ -138,7 +142,7 @@ fn push_row(
 
 /// Pushes the words of the rows of a block, one row after the other.
 #[cycle(expression)]
-#[tactic(auto, using(crate::proofs::Folds::words_taken, crate::proofs::Folds::words_stopped, algebra_meaning::proofs::Chains::rows_ended))]
+#[tactic(auto, using(crate::proofs::Folds::words_taken, crate::proofs::Folds::words_stopped))]
 fn push_rows(
     rows: &[TypedRow],
     scope: &Words<'_>,
@@ -147,6 +151,7 @@ fn push_rows(
     ensures value { steps.Pushes (meaning.entries (map (meaning.row_of scope.now) rows.now)) result (drop (length stack.old.items) stack.new.items) }
     ensures kept { OnOk result (take (length stack.old.items) stack.new.items ≡ stack.old.items) }
 {
+    expression_laws();
     for row in rows {
         push_row(row.entries.as_slice(), scope, stack)?;
     }
@@ -192,7 +197,7 @@ fn next_total(
 
 /// The total of terms; none where there are none.
 #[cycle(expression)]
-#[tactic(auto, using(crate::proofs::Folds::term_added, crate::proofs::Folds::term_refused, algebra_meaning::proofs::Chains::terms_ended))]
+#[tactic(auto, using(crate::proofs::Folds::term_added, crate::proofs::Folds::term_refused))]
 fn total(
     terms: &[TypedTerm],
     scope: &Words<'_>,
@@ -201,6 +206,7 @@ fn total(
     ensures value { steps.LeavesTotal (meaning.total (map (meaning.term_of scope.now) terms.now)) result (drop (length stack.old.items) stack.new.items) }
     ensures kept { OnOk result (take (length stack.old.items) stack.new.items ≡ stack.old.items) }
 {
+    expression_laws();
     let base = stack.len();
     let mut total = None;
     for term in terms {
@@ -258,7 +264,7 @@ fn next_product(
 
 /// The product of factors with its type; none where there are none.
 #[cycle(expression)]
-#[tactic(auto, using(crate::proofs::Folds::factor_multiplied, crate::proofs::Folds::factor_refused, algebra_meaning::proofs::Chains::factors_ended))]
+#[tactic(auto, using(crate::proofs::Folds::factor_multiplied, crate::proofs::Folds::factor_refused))]
 fn chain(
     factors: &[TypedFactor],
     scope: &Words<'_>,
@@ -267,6 +273,7 @@ fn chain(
     ensures value { steps.LeavesProduct (meaning.chain (map (meaning.factor_of scope.now) factors.now)) result (drop (length stack.old.items) stack.new.items) }
     ensures kept { OnOk result (take (length stack.old.items) stack.new.items ≡ stack.old.items) }
 {
+    expression_laws();
     let base = stack.len();
     let mut so_far = None;
     for factor in factors {

@@ -1,17 +1,17 @@
 //! Products and transposes of values that stand on the stack.
 
-ghost use Rattle.std.specs.Prelude.{◌≡◌, ◌≤◌, ◌*◌, ◌++◌, IfOk, OnOk, drop, fold, length, map, pos, slice_range, take, vec_len};
+ghost use Rattle.std.specs.Prelude.{◌≡◌, ◌≤◌, ◌*◌, ◌++◌, IfOk, OnOk, drop, length, map, pos, slice_range, take, vec_len};
 ghost use Rattle.std.specs.List.{flat_map, range_with_len};
-ghost use Rattle.ring_words.specs.Word.{add, mul, word};
+ghost use Rattle.ring_words.specs.Word.{mul, word};
 ghost use Rattle.value_algebra.specs.Value as value;
 ghost use Rattle.element_words.specs.Stack as spec;
 
 use crate::operand::{Operand, Pair, Size, first_word};
 use crate::slices::Change;
 use crate::stack::{change, close_gap, lower, push, spread};
-use ring_words::{add, mul};
+use loop_laws::row_laws;
 use type_rules::{NodeType, is_scalar};
-use value_algebra::entry;
+use value_algebra::{entry, row_times_column};
 use vocabulary::NoMemory;
 
 /// The word of a row and a column; 0 where there is none.
@@ -22,7 +22,6 @@ pub(crate) fn word_in(size: Size, words: &[u64], row: usize, column: usize) -> u
 }
 
 /// Pushes the words of a column of a value, whose words stand between two indices.
-#[tactic(auto, using(value_algebra::proofs::Rows::row_begun))]
 fn push_column(
     size: Size,
     base: usize,
@@ -34,6 +33,7 @@ fn push_column(
     requires within { top ≤ vec_len stack.old }
     ensures { OnOk result (stack.new.items ≡ stack.old.items ++ value.column_of (spec.sized size (slice_range stack.old.items base top)) column) }
 {
+    row_laws::<u64>();
     for row in 0..size.rows {
         let word = word_in(size, &stack[base..top], row, column);
         push(word, stack)?;
@@ -53,6 +53,7 @@ fn push_transposed(
     requires within { top ≤ vec_len stack.old }
     ensures { OnOk result (stack.new.items ≡ stack.old.items ++ flat_map (value.column_of (spec.sized size (slice_range stack.old.items base top))) (range_with_len 0 size.columns)) }
 {
+    row_laws::<u64>();
     for column in 0..size.columns {
         push_column(size, base, top, column, stack)?;
     }
@@ -81,44 +82,26 @@ pub(crate) fn transpose(
     }
 }
 
-/// The products of a row of one and a column of another, added one after the other.
-fn added_products(
-    left: Size,
-    left_words: &[u64],
-    right: Size,
-    right_words: &[u64],
-    row: usize,
-    column: usize,
-) -> u64
-    ensures { result ≡ fold (λ sum middle. add sum (mul (value.word_at (spec.sized left left_words.now) row middle) (value.word_at (spec.sized right right_words.now) middle column))) 0 (range_with_len 0 left.columns) }
-{
-    (0..left.columns).fold(0, |sum, middle| {
-        let product = mul(
-            word_in(left, left_words, row, middle),
-            word_in(right, right_words, middle, column),
-        );
-        add(sum, product)
-    })
-}
-
 /// The sum of the products of a row of one and a column of another of two values on the stack.
-fn row_times_column(pair: Pair, row: usize, column: usize, stack: &[u64]) -> u64
+fn product_entry(pair: Pair, row: usize, column: usize, stack: &[u64]) -> u64
     requires { spec.IsIn pair stack.now }
     ensures { result ≡ word (pos (value.row_times_column (spec.left_in pair stack.now) (spec.right_in pair stack.now) row column)) }
 {
     let left = &stack[pair.base..pair.middle];
     let right = &stack[pair.middle..pair.top];
-    added_products(pair.left, left, pair.right, right, row, column)
+    let (width, right_width) = (pair.left.columns, pair.right.columns);
+    row_times_column(left, width, right, right_width, row, column)
 }
 
 /// Pushes a row of a product.
-#[tactic(auto, using(crate::proofs::Pushed::still_in, value_algebra::proofs::Rows::row_begun))]
+#[tactic(auto, using(crate::proofs::Pushed::still_in))]
 fn push_row(pair: Pair, row: usize, stack: &mut Vec<u64>) -> Result<(), NoMemory>
     requires { spec.IsIn pair stack.old.items }
     ensures { OnOk result (stack.new.items ≡ stack.old.items ++ value.product_row (spec.left_in pair stack.old.items) (spec.right_in pair stack.old.items) row) }
 {
+    row_laws::<u64>();
     for column in 0..pair.right.columns {
-        let word = row_times_column(pair, row, column, stack);
+        let word = product_entry(pair, row, column, stack);
         push(word, stack)?;
     }
     Ok(())
@@ -130,6 +113,7 @@ fn push_product(pair: Pair, stack: &mut Vec<u64>) -> Result<(), NoMemory>
     requires { spec.IsIn pair stack.old.items }
     ensures { OnOk result (stack.new.items ≡ stack.old.items ++ flat_map (value.product_row (spec.left_in pair stack.old.items) (spec.right_in pair stack.old.items)) (range_with_len 0 pair.left.rows)) }
 {
+    row_laws::<u64>();
     for row in 0..pair.left.rows {
         push_row(pair, row, stack)?;
     }

@@ -1,4 +1,3 @@
-pub mod Items
 pub mod Order
 pub mod Targets
 pub mod Loops

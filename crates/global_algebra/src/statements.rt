@@ -16,6 +16,7 @@ use crate::maps::Maps;
 use crate::right_sides::{right_values, test, value_in};
 use algebra_meaning::{State, Stop, Stopped};
 use hypergraph::Sets;
+use loop_laws::item_laws;
 use ring_words::{TrapKind, add, less};
 use std::alloc::Global;
 use typed_tree::{MainStmt, TypedCond, TypedExpr, TypedProgram, TypedRight, TypedTarget};
@@ -151,6 +152,7 @@ fn in_order<M: Maps>(
 ) -> Result<State, Stopped<Stop>>
     ensures { Means (spec.in_order (map (spec.runs_of program.now) body.now) start) result }
 {
+    item_laws::<State, MainStmt, Stop>();
     let mut state = start;
     for one in body {
         state = statement(one, alloc, maps, program, state)?;

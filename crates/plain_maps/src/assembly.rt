@@ -8,6 +8,7 @@ ghost use Rattle.algebra_meaning.specs.Assembled as spec;
 use crate::entries::{BlockPlace, entry};
 use algebra_meaning::Contribution;
 use hypergraph::Sets;
+use loop_laws::row_laws;
 use std::alloc::{AllocError, Global};
 use type_rules::BlockShape;
 use typed_tree::{ResultSide, TypedResult};
@@ -59,7 +60,6 @@ struct Layout {
 }
 
 /// Appends a row of a block.
-#[tactic(auto, using(crate::proofs::Rows::row_begun, crate::proofs::Rows::row_grown))]
 fn push_block_row(
     contributed: &[Contribution],
     place: BlockPlace,
@@ -69,6 +69,7 @@ fn push_block_row(
 ) -> Result<(), AllocError>
     ensures { OnOk result (words.new.items ≡ words.old.items ++ map (spec.entry contributed.now place.number place.row place.column r) (range_with_len 0 width)) }
 {
+    row_laws::<u64>();
     for c in 0..width {
         words.push(entry(contributed, place, r, c))?;
     }
@@ -76,7 +77,6 @@ fn push_block_row(
 }
 
 /// Appends the entries of a row: of a row of elements and of their blocks.
-#[tactic(auto, using(crate::proofs::Rows::rows_begun, crate::proofs::Rows::rows_grown))]
 fn push_row(
     contributed: &[Contribution],
     layout: Layout,
@@ -86,6 +86,7 @@ fn push_row(
 ) -> Result<(), AllocError>
     ensures { OnOk result (words.new.items ≡ words.old.items ++ spec.row_entries contributed.now layout.number layout.columns layout.width row r) }
 {
+    row_laws::<u64>();
     for column in 0..layout.columns {
         let place = BlockPlace {
             number: layout.number,
@@ -98,7 +99,6 @@ fn push_row(
 }
 
 /// Appends all rows of a row of elements.
-#[tactic(auto, using(crate::proofs::Rows::rows_begun, crate::proofs::Rows::rows_grown))]
 fn push_block_rows(
     contributed: &[Contribution],
     layout: Layout,
@@ -107,6 +107,7 @@ fn push_block_rows(
 ) -> Result<(), AllocError>
     ensures { OnOk result (words.new.items ≡ words.old.items ++ flat_map (spec.row_entries contributed.now layout.number layout.columns layout.width row) (range_with_len 0 layout.height)) }
 {
+    row_laws::<u64>();
     for r in 0..layout.height {
         push_row(contributed, layout, row, r, words)?;
     }
@@ -114,7 +115,6 @@ fn push_block_rows(
 }
 
 /// The words of a result.
-#[tactic(auto, using(crate::proofs::Rows::all_grown))]
 fn words_of(
     alloc: Global,
     contributed: &[Contribution],
@@ -122,6 +122,7 @@ fn words_of(
 ) -> Result<Vec<u64>, AllocError>
     ensures { IfOk result (λ words. words.items ≡ flat_map (λ row. flat_map (spec.row_entries contributed.now layout.number layout.columns layout.width row) (range_with_len 0 layout.height)) (range_with_len 0 layout.rows)) }
 {
+    row_laws::<u64>();
     let mut words = Vec::new(alloc);
     for row in 0..layout.rows {
         push_block_rows(contributed, layout, row, &mut words)?;

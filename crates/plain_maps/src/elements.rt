@@ -10,6 +10,7 @@ use crate::call::Call;
 use crate::statements::contributions;
 use algebra_meaning::{Contribution, ElementContext, Stopped, Trapped};
 use hypergraph::Sets;
+use loop_laws::number_laws;
 use std::alloc::Global;
 use typed_tree::{TypedFunction, TypedProgram};
 use value_algebra::{Value, count};
@@ -88,6 +89,7 @@ fn all_contributions(
 ) -> Result<L<Contribution>, Stopped<Trapped>>
     ensures { Means (spec.all_contributions program.now sets.now set function.now args.now) result }
 {
+    number_laws::<L<Contribution>, Trapped>();
     let mut so_far = L::empty(alloc);
     for element in 0..count(sets, set) {
         let contributed = element_contributions(

@@ -8,6 +8,7 @@ ghost use Rattle.algebra_meaning.specs.Means.{Means};
 use crate::call::Call;
 use crate::locals::{copies, with_local, with_other, word_of_local};
 use algebra_meaning::{Contribution, Point, Stopped, end_of, holds, meaning};
+use loop_laws::{item_laws, number_laws};
 use ring_words::TrapKind;
 use std::alloc::Global;
 use typed_tree::{FunctionStmt, PlaceIndex, TypedCond, TypedExpr, TypedFunction, WrittenPlace};
@@ -201,6 +202,7 @@ fn in_order(
 ) -> Result<Point, Stopped<TrapKind>>
     ensures { Means (spec.in_order (map (spec.steps_of call.now) body.now) start) result }
 {
+    item_laws::<Point, FunctionStmt, TrapKind>();
     let mut point = start;
     for one in body {
         point = statement(one, alloc, call, point)?;
@@ -242,6 +244,7 @@ fn looped(
 ) -> Result<Point, Stopped<TrapKind>>
     ensures { Means (spec.looped local bounds.0 bounds.1 (map (spec.steps_of call.now) body.now) start) result }
 {
+    number_laws::<Point, TrapKind>();
     let (from, to) = bounds;
     let mut point = start;
     for value in from..to {

@@ -14,6 +14,7 @@ use Rattle.algebra_meaning.specs.declared.stopped.Stopped.{Stopped}
 use Rattle.algebra_meaning.specs.declared.stopped.Stopped.TheVariants.{By}
 use Rattle.algebra_meaning.specs.declared.stopped.Trapped.{Trapped}
 use Rattle.algebra_meaning.specs.Assembled.{all_assembled, all_contributions, contributions_at, mapped, of_element, with_element}
+use Rattle.loop_laws.specs.Loops.{NumberLaws}
 use Rattle.proc_engine.specs.Running.{those_of}
 use Rattle.proc_engine.specs.Sums.{below, contributed_below}
 
@@ -22,10 +23,6 @@ use Rattle.proc_engine.specs.Sums.{below, contributed_below}
 -- the next number
 range_more : (n : ℕ) → range_with_len 0 (n + 1) ≡ range_with_len 0 n ++ n ∷ []
 range_more n = simp map-id at (map-range_with_len_more (λ (x : ℕ). x) 0 n n (omega arith))
-
--- the numbers from one on, up to below another
-from_number : (n to : ℕ) → n < to → range_with_len n (to - n) ≡ n ∷ range_with_len (n + 1) (to - (n + 1))
-from_number n to before = ap (range_with_len n) (let left : to - n ≡ suc (to - (n + 1)) = omega arith in left)
 
 last_step : {A E : Type 0} (r : Result A E) → (r >>= λ next. Ok next) ≡ r
 last_step (Ok value) = refl
@@ -86,17 +83,14 @@ next_kept program sets set function args contributed n taken is =
     kept program sets set function args (contributed_below program sets set function args n ++ contributed) (n + 1) (element_added program sets set function args contributed n taken is)
 
 -- those that are left, after one
-pub left_after : (program : TypedProgram) (sets : List SetValue) (set : ℕ) (function : TypedFunction) (args : List Value) (before contributed after : List Contribution)
+pub left_after : NumberLaws (List Contribution) Trapped → (program : TypedProgram) (sets : List SetValue) (set : ℕ) (function : TypedFunction) (args : List Value) (before contributed after : List Contribution)
     (known : Result (List Contribution) Trapped) (n to : ℕ)
     → n < to → of_element n (contributions_at program sets set function args n) ≡ Ok contributed → after ≡ before ++ contributed
     → fold_result (with_element program sets set function args) before (range_with_len n (to - n)) ≡ known
     → fold_result (with_element program sets set function args) after (range_with_len (n + 1) (to - (n + 1))) ≡ known
-left_after program sets set function args before contributed after known n to under is more so_far =
-    let step : Step = with_element program sets set function args in
-    ap (λ a. fold_result step a (range_with_len (n + 1) (to - (n + 1)))) more
-    ∙ sym (ap (fold_result step before) (from_number n to under)
-    ∙ ap (λ (r : Result (List Contribution) Trapped). (r >>= λ c. Ok (before ++ c)) >>= λ next. fold_result step next (range_with_len (n + 1) (to - (n + 1)))) is)
-    ∙ so_far
+left_after laws program sets set function args before contributed after known n to under is more so_far =
+    laws.taken (with_element program sets set function args) before after known n to under
+    (ap (λ (r : Result (List Contribution) Trapped). r >>= λ c. Ok (before ++ c)) is ∙ ap Ok (sym more)) so_far
 
 -- all elements are left
 pub elements_begun : (program : TypedProgram) (sets : List SetValue) (set : ℕ) (function : TypedFunction) (args : List Value)
@@ -106,30 +100,26 @@ elements_begun program sets set function args =
     ap (λ n. fold_result (with_element program sets set function args) [] (range_with_len 0 n)) (let all : (set_at sets set).count - 0 ≡ (set_at sets set).count = omega arith in all)
 
 -- an element traps
-pub element_stopped : (program : TypedProgram) (sets : List SetValue) (set : ℕ) (function : TypedFunction) (args : List Value) (before : List Contribution) (n end : ℕ)
+pub element_stopped : NumberLaws (List Contribution) Trapped → (program : TypedProgram) (sets : List SetValue) (set : ℕ) (function : TypedFunction) (args : List Value) (before : List Contribution) (n end : ℕ)
     (stopped : Stopped Trapped)
     → end ≡ (set_at sets set).count → n < end → ((trapped : Trapped) → stopped ≡ By trapped → of_element n (contributions_at program sets set function args n) ≡ Err trapped)
     → fold_result (with_element program sets set function args) before (range_with_len n ((set_at sets set).count - n)) ≡ all_contributions program sets set function args
     → (trapped : Trapped) → stopped ≡ By trapped → mapped program sets set function args ≡ Err trapped
 unfolding mapped
-element_stopped program sets set function args before n end stopped last under stops so_far trapped is =
-    let step : Step = with_element program sets set function args in
-    let to : ℕ = (set_at sets set).count in
-    let within : n < to = rw last at under in
+element_stopped laws program sets set function args before n end stopped last under stops so_far trapped is =
+    let within : n < (set_at sets set).count = rw last at under in
     ap (λ (r : Result (List Contribution) Trapped). r >>= λ contributed. Ok (all_assembled sets contributed 0 function.results))
-    (sym so_far ∙ ap (fold_result step before) (from_number n to within)
-    ∙ ap (λ (r : Result (List Contribution) Trapped). (r >>= λ c. Ok (before ++ c)) >>= λ next. fold_result step next (range_with_len (n + 1) (to - (n + 1)))) (stops trapped is))
+    (laws.refused (with_element program sets set function args) before (all_contributions program sets set function args) n (set_at sets set).count trapped within
+    (ap (λ (r : Result (List Contribution) Trapped). r >>= λ c. Ok (before ++ c)) (stops trapped is)) so_far)
 
 -- no element is left
-pub elements_ended : (program : TypedProgram) (sets : List SetValue) (set : ℕ) (function : TypedFunction) (args : List Value) (before : List Contribution) (sums : List Value) (n end : ℕ)
+pub elements_ended : NumberLaws (List Contribution) Trapped → (program : TypedProgram) (sets : List SetValue) (set : ℕ) (function : TypedFunction) (args : List Value) (before : List Contribution) (sums : List Value) (n end : ℕ)
     → end ≡ (set_at sets set).count → end ≤ n → sums ≡ all_assembled sets before 0 function.results
     → fold_result (with_element program sets set function args) before (range_with_len n ((set_at sets set).count - n)) ≡ all_contributions program sets set function args
     → mapped program sets set function args ≡ Ok sums
 unfolding mapped
-elements_ended program sets set function args before sums n end last past is so_far =
-    let step : Step = with_element program sets set function args in
-    let to : ℕ = (set_at sets set).count in
-    let beyond : to ≤ n = rw last at past in
+elements_ended laws program sets set function args before sums n end last past is so_far =
+    let beyond : (set_at sets set).count ≤ n = rw last at past in
     ap (λ (r : Result (List Contribution) Trapped). r >>= λ contributed. Ok (all_assembled sets contributed 0 function.results))
-    (sym so_far ∙ ap (λ left. fold_result step before (range_with_len n left)) (let none : to - n ≡ 0 = omega arith in none))
+    (laws.ended (with_element program sets set function args) before (all_contributions program sets set function args) n (set_at sets set).count beyond so_far)
     ∙ ap Ok (sym is)

@@ -1,4 +1,3 @@
-pub mod Steps
 pub mod Elements
 pub mod Running
 pub mod Statements

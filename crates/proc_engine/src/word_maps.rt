@@ -8,11 +8,12 @@ ghost use Rattle.algebra_meaning.specs.Means.{Means};
 ghost use Rattle.proc_engine.specs.Running.{Adds};
 
 use crate::word_statements::in_order;
-use algebra_meaning::{Stopped, Trapped};
+use algebra_meaning::{Contribution, Stopped, Trapped};
 use assembly_sums::Sums;
 use element_words::Locals;
 use global_algebra::Maps;
 use hypergraph::Sets;
+use loop_laws::number_laws;
 use plain_maps::{Call, place_of};
 use ring_words::TrapKind;
 use std::alloc::Global;
@@ -101,6 +102,7 @@ fn all_sums(
 ) -> Result<Sums, Stopped<Trapped>>
     ensures { Means (spec.mapped program.now sets.now set function.now args.now) result }
 {
+    number_laws::<L<Contribution>, Trapped>();
     let mut sums = Sums::zeros(alloc, sets, function.results.items())?;
     let mut locals = Locals::new(alloc);
     let mut stack = Vec::new(alloc);

@@ -10,9 +10,10 @@ ghost use Rattle.algebra_meaning.specs.Means.{Leads, Means};
 ghost use Rattle.element_words.specs.Stack.{Appends};
 ghost use Rattle.proc_engine.specs.Running.{Runs, point};
 
-use algebra_meaning::{Stopped, end_of};
+use algebra_meaning::{Point, Stopped, end_of};
 use assembly_sums::Sums;
 use element_words::{Locals, Size, Words, evaluate, holds};
+use loop_laws::{item_laws, number_laws};
 use plain_maps::Call;
 use ring_words::TrapKind;
 use typed_tree::{FunctionStmt, PlaceIndex, TypedCond, TypedExpr, TypedResult, WrittenPlace};
@@ -227,6 +228,7 @@ pub(crate) fn in_order(
     ensures { (before contributed : List contribution.Contribution) → sums.old ≡ all_assembled call.now.sets (before ++ contributed) 0 results.now
         → Runs call.now.sets results.now before (spec.in_order (map (spec.steps_of call.now) body.now) (point locals.old contributed)) result locals.new sums.new }
 {
+    item_laws::<Point, FunctionStmt, TrapKind>();
     for one in body {
         statement(one, call, results, locals, sums, stack)?;
     }
@@ -272,6 +274,7 @@ fn looped(
     ensures { (before contributed : List contribution.Contribution) → sums.old ≡ all_assembled call.now.sets (before ++ contributed) 0 results.now
         → Runs call.now.sets results.now before (spec.looped local bounds.0 bounds.1 (map (spec.steps_of call.now) body.now) (point locals.old contributed)) result locals.new sums.new }
 {
+    number_laws::<Point, TrapKind>();
     let (from, to) = bounds;
     for value in from..to {
         turn(body, local, value, call, results, locals, sums, stack)?;

@@ -10,6 +10,7 @@ ghost use Rattle.set_tables.specs.Schema.{IsSchema};
 ghost use Rattle.write_back.specs.Schemas as spec;
 
 use block_types::Typed;
+use loop_laws::row_laws;
 use set_tables::{Column, Schema};
 use std::alloc::Global;
 use type_rules::BlockShape;
@@ -44,7 +45,6 @@ fn push_entry(
 }
 
 /// Appends the columns of so many entries.
-#[tactic(auto, using(value_algebra::proofs::Rows::row_begun, value_algebra::proofs::Rows::row_grown))]
 fn push_entries(
     alloc: Global,
     heading: &str,
@@ -54,6 +54,7 @@ fn push_entries(
 ) -> Result<(), NoMemory>
     ensures { OnOk result (columns.new ≡ columns.old ++ spec.entry_columns scale heading.now count) }
 {
+    row_laws::<Column>();
     for index in 0..count {
         push_entry(alloc, heading, index, scale, columns)?;
     }
@@ -61,7 +62,6 @@ fn push_entries(
 }
 
 /// Appends the columns of a matrix, row by row.
-#[tactic(auto, using(crate::proofs::Lists::rows_begun, crate::proofs::Lists::rows_grown))]
 fn push_rows(
     alloc: Global,
     heading: &str,
@@ -72,6 +72,7 @@ fn push_rows(
 ) -> Result<(), NoMemory>
     ensures { OnOk result (columns.new ≡ columns.old ++ flat_map (λ row. spec.entry_columns scale (spec.entry_heading heading.now row) count) (range_with_len 0 rows)) }
 {
+    row_laws::<Column>();
     for row in 0..rows {
         let row_heading = entry_heading(alloc, heading, row)?;
         push_entries(alloc, row_heading.as_str(), count, scale, columns)?;

@@ -2,7 +2,6 @@ use Rattle.std.proofs.Common.{◌≡◌, Ok, ◌++◌, map}
 use Rattle.typed_tree.specs.declared.expression.TypedRow.{out-TypedRow}
 use Rattle.value_algebra.specs.Value.{word_of}
 use Rattle.algebra_meaning.specs.Expression.{entries, meanings, row_of}
-use Rattle.algebra_meaning.proofs.Chains.{row_taken}
 use Rattle.algebra_meaning.proofs.expression.+expression.Goals as goal
 
 pub entries-loop-row-preserved : goal.entries-loop-row-preserved
@@ -12,5 +11,5 @@ entries-loop-row-preserved t c =
     let values = c.in_ok-values.values in
     let meant : meanings scope (out-TypedRow row).entries ≡ Ok values = rw c.as_slice.ensures at c.in_ok-values.ensures in
     let more : c.push_words.new.words ≡ c.loop-row.words ++ map word_of values = rw c.items.ensures at c.in_ok-push_words.ensures in
-    row_taken scope c.loop-row.words c.push_words.new.words values (entries (map (row_of scope) c.args.rows.now)) c.args.rows.now c.loop-row.row-index row
+    c.expression_laws.ensures.row_taken scope c.loop-row.words c.push_words.new.words values (entries (map (row_of scope) c.args.rows.now)) c.args.rows.now c.loop-row.row-index row
     c.loop-row-test.true c.row-item.is meant more c.loop-row.invariant

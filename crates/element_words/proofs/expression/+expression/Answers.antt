@@ -19,7 +19,7 @@ use Rattle.element_words.proofs.expression.+expression.Goals as goal
 
 pub total-loop-term-preserved : goal.total-loop-term-preserved
 total-loop-term-preserved t c = record {
-  folded = term_added c.args.scope.now (total_of c.loop-term.total (drop c.len-base.result c.loop-term.stack.items))
+  folded = term_added c.expression_laws.ensures c.args.scope.now (total_of c.loop-term.total (drop c.len-base.result c.loop-term.stack.items))
       (value_of c.in_ok-next.next (drop c.len-base.result c.next_total.new.stack.items)) (total (map (term_of c.args.scope.now) c.args.terms.now))
       c.args.terms.now c.loop-term.term-index c.term-item.result c.loop-term-test.true c.term-item.is c.in_ok-next.ensures.value c.loop-term.invariant.folded;
   kept = c.in_ok-next.ensures.kept ∙ c.loop-term.invariant.kept;
@@ -28,7 +28,7 @@ total-loop-term-preserved t c = record {
 
 pub chain-loop-factor-preserved : goal.chain-loop-factor-preserved
 chain-loop-factor-preserved t c = record {
-  folded = factor_multiplied c.args.scope.now (product_of c.loop-factor.so_far (drop c.len-base.result c.loop-factor.stack.items))
+  folded = factor_multiplied c.expression_laws.ensures c.args.scope.now (product_of c.loop-factor.so_far (drop c.len-base.result c.loop-factor.stack.items))
       (value_of c.in_ok-product.product (drop c.len-base.result c.next_product.new.stack.items)) (chain (map (factor_of c.args.scope.now) c.args.factors.now))
       c.args.factors.now c.loop-factor.factor-index c.factor-item.result c.loop-factor-test.true c.factor-item.is c.in_ok-product.ensures.value c.loop-factor.invariant.folded;
   kept = c.in_ok-product.ensures.kept ∙ c.loop-factor.invariant.kept;
@@ -50,7 +50,7 @@ push_rows-loop-row-preserved t c =
     let row = c.row-item.result in
     let meant : words_meant (meanings c.args.scope.now (out-TypedRow row).entries) ≡ Ok (drop (length old) new) = rw c.as_slice.ensures at c.in_ok-push_row.ensures.value in
     record {
-      folded = words_taken c.args.scope.now (drop (length before) old) (drop (length before) new) (drop (length old) new) (entries (map (row_of c.args.scope.now) c.args.rows.now))
+      folded = words_taken c.expression_laws.ensures c.args.scope.now (drop (length before) old) (drop (length before) new) (drop (length old) new) (entries (map (row_of c.args.scope.now) c.args.rows.now))
           c.args.rows.now c.loop-row.row-index row c.loop-row-test.true c.row-item.is meant
           (row_above before old new c.loop-row.invariant.kept c.in_ok-push_row.ensures.kept) c.loop-row.invariant.folded;
       kept = kept_through before old new c.loop-row.invariant.kept c.in_ok-push_row.ensures.kept;
@@ -59,14 +59,14 @@ push_rows-loop-row-preserved t c =
 pub total-returns-in_err-next-clause-value : goal.total-returns-in_err-next-clause-value
 total-returns-in_err-next-clause-value t c =
     let h : (kind : TrapKind) → c.in_err-next.field-0.0 ≡ By kind → total (map (term_of c.args.scope.now) c.args.terms.now) ≡ Err kind =
-    term_refused c.args.scope.now (total_of c.loop-term.total (drop c.len-base.result c.loop-term.stack.items)) (total (map (term_of c.args.scope.now) c.args.terms.now))
+    term_refused c.expression_laws.ensures c.args.scope.now (total_of c.loop-term.total (drop c.len-base.result c.loop-term.stack.items)) (total (map (term_of c.args.scope.now) c.args.terms.now))
     c.args.terms.now c.loop-term.term-index c.term-item.result c.in_err-next.field-0.0 c.loop-term-test.true c.term-item.is c.in_err-next.ensures.value c.loop-term.invariant.folded in
     search rules
 
 pub chain-returns-in_err-product-clause-value : goal.chain-returns-in_err-product-clause-value
 chain-returns-in_err-product-clause-value t c =
     let h : (kind : TrapKind) → c.in_err-product.field-0.0 ≡ By kind → chain (map (factor_of c.args.scope.now) c.args.factors.now) ≡ Err kind =
-    factor_refused c.args.scope.now (product_of c.loop-factor.so_far (drop c.len-base.result c.loop-factor.stack.items)) (chain (map (factor_of c.args.scope.now) c.args.factors.now))
+    factor_refused c.expression_laws.ensures c.args.scope.now (product_of c.loop-factor.so_far (drop c.len-base.result c.loop-factor.stack.items)) (chain (map (factor_of c.args.scope.now) c.args.factors.now))
     c.args.factors.now c.loop-factor.factor-index c.factor-item.result c.in_err-product.field-0.0 c.loop-factor-test.true c.factor-item.is c.in_err-product.ensures.value c.loop-factor.invariant.folded in
     search rules
 
@@ -76,7 +76,7 @@ push_rows-returns-in_err-push_row-clause-value t c =
     let stops : (kind : TrapKind) → c.in_err-push_row.field-0.0 ≡ By kind → words_meant (meanings c.args.scope.now (out-TypedRow row).entries) ≡ Err kind =
     rw c.as_slice.ensures at c.in_err-push_row.ensures.value in
     let h : (kind : TrapKind) → c.in_err-push_row.field-0.0 ≡ By kind → entries (map (row_of c.args.scope.now) c.args.rows.now) ≡ Err kind =
-    words_stopped c.args.scope.now (drop (length c.args.stack.now.items) c.loop-row.stack.items) (entries (map (row_of c.args.scope.now) c.args.rows.now))
+    words_stopped c.expression_laws.ensures c.args.scope.now (drop (length c.args.stack.now.items) c.loop-row.stack.items) (entries (map (row_of c.args.scope.now) c.args.rows.now))
     c.args.rows.now c.loop-row.row-index row c.in_err-push_row.field-0.0 c.loop-row-test.true c.row-item.is stops c.loop-row.invariant.folded in
     search rules
 

@@ -9,7 +9,7 @@ use Rattle.element_words.proofs.products.push_row.Goals as goal
 pub loop-column-preserved : goal.loop-column-preserved
 loop-column-preserved c =
     let there : IsIn c.args.pair c.args.stack.now.items = c.requires in
-    let is : c.row_times_column-word.result ≡ word (pos (row_times_column (left_in c.args.pair c.loop-column.stack.items) (right_in c.args.pair c.loop-column.stack.items) c.args.row c.loop-column.column)) =
-    rw c.deref.ensures.value at c.row_times_column-word.ensures in
-    product_grown c.args.pair c.args.stack.now.items c.loop-column.stack.items c.push.new.stack.items c.args.row c.loop-column.column c.row_times_column-word.result
+    let is : c.product_entry-word.result ≡ word (pos (row_times_column (left_in c.args.pair c.loop-column.stack.items) (right_in c.args.pair c.loop-column.stack.items) c.args.row c.loop-column.column)) =
+    rw c.deref.ensures.value at c.product_entry-word.ensures in
+    product_grown c.row_laws.ensures c.args.pair c.args.stack.now.items c.loop-column.stack.items c.push.new.stack.items c.args.row c.loop-column.column c.product_entry-word.result
     there c.loop-column.invariant is c.in_ok-push.ensures

@@ -14,7 +14,7 @@ returns-in_err-add_element c =
     let a = c.args in
     let before : List Contribution = contributed_below a.program.now a.sets.now a.set a.function.now a.args.now c.loop-element.element in
     let h : (trapped : Trapped) → c.in_err-add_element.field-0.0 ≡ By trapped → mapped a.program.now a.sets.now a.set a.function.now a.args.now ≡ Err trapped =
-    element_stopped a.program.now a.sets.now a.set a.function.now a.args.now before c.loop-element.element c.count-element-end.result c.in_err-add_element.field-0.0
+    element_stopped c.number_laws.ensures a.program.now a.sets.now a.set a.function.now a.args.now before c.loop-element.element c.count-element-end.result c.in_err-add_element.field-0.0
     c.count-element-end.ensures c.loop-element-test.true (c.in_err-add_element.ensures before c.loop-element.invariant.sums) c.loop-element.invariant.left in
     search rules
 
@@ -30,7 +30,7 @@ loop-element-preserved c =
     record {
       sums = made.1 ∙ ap (λ l. all_assembled a.sets.now l 0 a.function.now.results) (sym more);
       taken = next_taken a.program.now a.sets.now a.set a.function.now a.args.now new n c.loop-element.invariant.taken made.0;
-      left = left_after a.program.now a.sets.now a.set a.function.now a.args.now before new (contributed_below a.program.now a.sets.now a.set a.function.now a.args.now (n + 1))
+      left = left_after c.number_laws.ensures a.program.now a.sets.now a.set a.function.now a.args.now before new (contributed_below a.program.now a.sets.now a.set a.function.now a.args.now (n + 1))
           _ n (set_at a.sets.now a.set).count under made.0 more c.loop-element.invariant.left;
     }
 
@@ -38,5 +38,5 @@ pub returns : goal.returns
 returns c =
     let a = c.args in
     let past : c.count-element-end.result ≤ c.loop-element.element = omega arith in
-    elements_ended a.program.now a.sets.now a.set a.function.now a.args.now (contributed_below a.program.now a.sets.now a.set a.function.now a.args.now c.loop-element.element)
+    elements_ended c.number_laws.ensures a.program.now a.sets.now a.set a.function.now a.args.now (contributed_below a.program.now a.sets.now a.set a.function.now a.args.now c.loop-element.element)
     c.loop-element.sums c.loop-element.element c.count-element-end.result c.count-element-end.ensures past c.loop-element.invariant.sums c.loop-element.invariant.left

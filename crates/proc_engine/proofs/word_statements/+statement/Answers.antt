@@ -1,10 +1,9 @@
-use Rattle.std.proofs.Common.{rules, ◌≡◌, ◌+◌, ◌-◌, List, Err, drop, map}
+use Rattle.std.proofs.Common.{rules, refl, ◌≡◌, ◌+◌, ◌-◌, List, Err, drop, map}
 use Rattle.std.specs.List.{range_with_len}
 use Rattle.vocabulary.specs.Answers.{fold_result}
 use Rattle.ring_words.specs.declared.trap.TrapKind.{TrapKind}
 use Rattle.algebra_meaning.specs.declared.stopped.Stopped.TheVariants.{By}
 use Rattle.algebra_meaning.specs.Element.{Steps, in_order, looped, steps_of, turn}
-use Rattle.proc_engine.proofs.Steps.{item_refused, number_refused, number_taken}
 use Rattle.proc_engine.specs.Running.{point}
 use Rattle.proc_engine.proofs.Running.{gone_on, trapped}
 use Rattle.proc_engine.proofs.Statements.{assert_runs, assign_runs, var_runs}
@@ -16,7 +15,7 @@ in_order-returns-in_err-statement t c before contributed so =
     let known = in_order (map (steps_of call) c.args.body.now) (point c.args.locals.now contributed) in
     let h : (kind : TrapKind) → c.in_err-statement.field-0.0 ≡ By kind → known ≡ Err kind =
     λ kind is. trapped call.sets c.args.results.now before known (steps_of call c.one-item.result) (in_order (map (steps_of call) (drop c.loop-one.one-index c.args.body.now))) c.loop-one.locals c.loop-one.sums kind
-    (λ p stops left. item_refused (λ so_far (step : Steps). step so_far) (steps_of call) p known c.args.body.now c.loop-one.one-index c.one-item.result kind c.loop-one-test.true c.one-item.is stops left)
+    (λ p stops left. c.item_laws.ensures.refused (λ start ss. in_order (map (steps_of call) ss) start) (λ start s. steps_of call s start) (record { ends = λ start. refl; goes_on = λ start s ss. refl }) p known c.args.body.now c.loop-one.one-index c.one-item.result kind c.loop-one-test.true c.one-item.is stops left)
     (λ now sums. c.in_err-statement.ensures before now sums kind is)
     (c.loop-one.invariant before contributed so) in
     search rules
@@ -29,7 +28,7 @@ looped-returns-in_err-turn t c before contributed so =
     let h : (kind : TrapKind) → c.in_err-turn.field-0.0 ≡ By kind → known ≡ Err kind =
     λ kind is. trapped call.sets c.args.results.now before known (λ p. turn c.args.local body p c.loop-value.value)
     (λ p. fold_result (turn c.args.local body) p (range_with_len c.loop-value.value (c.args.bounds.1 - c.loop-value.value))) c.loop-value.locals c.loop-value.sums kind
-    (λ p stops left. number_refused (turn c.args.local body) p known c.loop-value.value c.args.bounds.1 kind c.loop-value-test.true stops left)
+    (λ p stops left. c.number_laws.ensures.refused (turn c.args.local body) p known c.loop-value.value c.args.bounds.1 kind c.loop-value-test.true stops left)
     (λ now sums. c.in_err-turn.ensures before now sums kind is)
     (c.loop-value.invariant before contributed so) in
     search rules
@@ -43,7 +42,7 @@ looped-loop-value-preserved t c before contributed so =
     (λ p. fold_result (turn c.args.local body) p (range_with_len c.loop-value.value (c.args.bounds.1 - c.loop-value.value)))
     (λ p. fold_result (turn c.args.local body) p (range_with_len (c.loop-value.value + 1) (c.args.bounds.1 - (c.loop-value.value + 1))))
     c.loop-value.locals c.loop-value.sums c.turn.new.locals c.turn.new.sums
-    (λ p q is left. number_taken (turn c.args.local body) p q known c.loop-value.value c.args.bounds.1 c.loop-value-test.true is left)
+    (λ p q is left. c.number_laws.ensures.taken (turn c.args.local body) p q known c.loop-value.value c.args.bounds.1 c.loop-value-test.true is left)
     c.in_ok-turn.ensures (c.loop-value.invariant before contributed so)
 
 pub statement-returns-in-Var : goal.statement-returns-in-Var
