@@ -1,7 +1,6 @@
 //! The sizes of results, and where a block lies in one.
 
 ghost use Rattle.std.specs.Prelude.{◌≡◌};
-ghost use Rattle.hypergraph.specs.Sets.{set_at};
 ghost use Rattle.algebra_meaning.specs.Assembled as spec;
 ghost use Rattle.assembly_sums.specs.Added.{region_of};
 
@@ -9,6 +8,7 @@ use crate::block::Region;
 use hypergraph::Sets;
 use type_rules::BlockShape;
 use typed_tree::ResultSide;
+use value_algebra::count;
 
 /// The rows of a block; a vector is a column.
 #[inline]
@@ -31,13 +31,6 @@ pub(crate) fn width(block: BlockShape) -> u32
         BlockShape::Number | BlockShape::Vector(_) => 1,
         BlockShape::Matrix(_, columns) => columns,
     }
-}
-
-/// How many elements a set has; none where there is no such set.
-pub(crate) fn count(sets: &Sets, set: u32) -> u32
-    ensures { result ≡ (set_at sets.now set).count }
-{
-    if set < sets.len() { sets.count(set) } else { 0 }
 }
 
 /// How many elements the columns of a result have: one where it is a vector.

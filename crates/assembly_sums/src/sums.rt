@@ -1,12 +1,12 @@
 //! The results of a map so far.
 
 use crate::block::add_in;
-use crate::sizes::{count, elements_of, height, region_of, width};
+use crate::sizes::{elements_of, height, region_of, width};
 use hypergraph::Sets;
 use std::alloc::Global;
 use std::marker::Model;
 use typed_tree::TypedResult;
-use value_algebra::Value;
+use value_algebra::{Value, count};
 use vocabulary::{L, NoMemory};
 
 /// The results of a map so far. In contracts: the list of their values.

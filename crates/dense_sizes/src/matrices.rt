@@ -1,31 +1,11 @@
 //! The words of one matrix.
 
 ghost use Rattle.std.specs.Prelude.{◌≡◌};
-ghost use Rattle.hypergraph.specs.Sets.{set_at};
-ghost use Rattle.typed_tree.specs.Cost.{entries_in};
 ghost use Rattle.dense_sizes.specs.DenseWords as spec;
 
 use hypergraph::Sets;
-use type_rules::{BlockShape, NodeType};
-
-/// How many elements a set has; 0 where there is no such set.
-#[tactic(auto, using(std::proofs::lemmas::List::get_or_past))]
-fn count(sets: &Sets, set: u32) -> u32
-    ensures { result ≡ (set_at sets.now set).count }
-{
-    if set < sets.len() { sets.count(set) } else { 0 }
-}
-
-/// How many words a block has.
-fn entries(block: BlockShape) -> u64
-    ensures { result ≡ entries_in block }
-{
-    match block {
-        BlockShape::Number => 1,
-        BlockShape::Vector(side) => u64::from(side),
-        BlockShape::Matrix(rows, columns) => u64::from(rows) * u64::from(columns),
-    }
-}
+use type_rules::NodeType;
+use value_algebra::{count, entries};
 
 /// How many words a value has that is a system matrix: rows times columns times the words of a block. Any other value
 /// is no matrix and has none.
