@@ -4,16 +4,28 @@
 #![tactic(auto)]
 
 #[cfg(test)]
+mod blocks;
+#[cfg(test)]
 mod calls;
 #[cfg(test)]
 mod faults;
 #[cfg(test)]
 mod limits;
 #[cfg(test)]
+mod loops;
+#[cfg(test)]
+mod maps;
+#[cfg(test)]
+mod matrices;
+#[cfg(test)]
 mod programs;
 #[cfg(test)]
 mod runs;
 #[cfg(test)]
+mod scales;
+#[cfg(test)]
 mod springs;
+#[cfg(test)]
+mod traps;
 #[cfg(test)]
 mod words;

@@ -1,7 +1,9 @@
-//! The limits on files and on the rows of a table, each at its last value and one past it.
+//! The limits on files, on the rows of a table and on dense words, each at its last value and one past it.
 use crate::calls::{assert_over_points, done, ended, refused};
+use crate::runs::assert_run;
 use simit_run::Status;
 use std::test::Fail;
+use worked_texts::{POINTS_AND_SPRINGS, STIFF};
 
 const PROGRAM: &[u8] =
     b"element Point x: int(0); end extern points: set{Point}; proc main points.x = points.x; end";
@@ -73,6 +75,32 @@ fn at_most_1048576_rows(rt: HostRuntime) -> Result<(), Fail> {
         let rows = "7\n".repeat(rt.alloc(), count)?;
         let points = format!(in rt.alloc(); "x\n{rows}")?;
         assert_over_points(&rt, "rows", PROGRAM, points.as_bytes(), end)?;
+    }
+    Ok(())
+}
+
+/// Statements after that of a matrix over points without springs. A variable is counted once, and each value of an
+/// expression beside the variables.
+#[test]
+fn at_most_4194304_dense_words(rt: HostRuntime) -> Result<(), Fail> {
+    for (count, statement, is_few) in [
+        (2048, "points.f = K*points.x;", true),
+        (2049, "points.f = K*points.x;", false),
+        (2049, "assert 1 == 2;", false),
+        (1024, "points.f = (K' + 2*K)*points.x;", true),
+        (1025, "points.f = (K' + 2*K)*points.x;", false),
+    ] {
+        let main = "proc main var K = map stiff to springs reduce +; ";
+        let program = [POINTS_AND_SPRINGS, STIFF, main, statement, " end"];
+        let rows = "1,0\n".repeat(rt.alloc(), count)?;
+        let points = format!(in rt.alloc(); "x,f\n{rows}")?;
+        let out = format!(in rt.alloc(); "set points\n{points}set springs\np0,p1,k\n")?;
+        let end = if is_few {
+            done(out.as_str())
+        } else {
+            ended(Status::Limit, "limit: dense words over 4194304\n")
+        };
+        assert_run(&rt, &program, &[points.as_str(), "p0,p1,k\n"], end)?;
     }
     Ok(())
 }

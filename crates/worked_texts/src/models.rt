@@ -1,5 +1,27 @@
 //! Programs of models with matrices, blocks and loops, as a user writes them.
 
+/// Points and the springs between them, in lines 1 to 9.
+pub const POINTS_AND_SPRINGS: &str = "element Point
+  x : int(0);
+  f : int(0);
+end
+element Spring
+  k : int(0);
+end
+extern points : set{Point};
+extern springs : set{Spring}(points, points);
+";
+
+/// What a spring adds to the stiffness matrix, as it stands after these.
+pub const STIFF: &str =
+    "func stiff(s : Spring, p : (Point*2)) -> (K : matrix[points,points](int(0)))
+  K(p(0),p(0)) = s.k;
+  K(p(0),p(1)) = -s.k;
+  K(p(1),p(0)) = -s.k;
+  K(p(1),p(1)) = s.k;
+end
+";
+
 /// Springs that pull their points.
 pub const PULLING: &str = "element Point
   x : int(0);
