@@ -1,0 +1,15 @@
+//! The tests of the calls that run typed programs: what no public clause says.
+//!
+//! Each module is about one subject.
+#![tactic(auto)]
+
+#[cfg(test)]
+mod both_runs;
+#[cfg(test)]
+mod combined;
+#[cfg(test)]
+mod endings;
+#[cfg(test)]
+mod graphs;
+#[cfg(test)]
+mod typing;
