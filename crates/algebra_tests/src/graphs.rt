@@ -1,5 +1,5 @@
 //! Sets of points and of links between them.
-ghost use Rattle.std.specs.Prelude.{◌≡◌, IfOk, length, None, Some};
+ghost use Rattle.std.specs.Prelude.{◌≡◌, ◌≤◌, IfOk, length, None, Some};
 
 use hypergraph::{SetData, Sets};
 use std::alloc::{AllocError, Global};
@@ -53,6 +53,18 @@ fn links(alloc: Global) -> Result<SetData, AllocError>
 pub fn graph(alloc: Global) -> Result<Sets, Fail> {
     let points = points(alloc)?;
     let links = links(alloc)?;
+    match Sets::of(vec![in alloc; points, links]?) {
+        Ok(sets) => Ok(sets),
+        Err(_) => Err(Fail::new("a bad endpoint")),
+    }
+}
+
+/// So many points without columns, and no links between them.
+pub fn points_alone(alloc: Global, count: u32) -> Result<Sets, Fail>
+    requires { count ≤ 4096 }
+{
+    let points = SetData::new(count, None, 0, Vec::new(alloc), L::empty(alloc));
+    let links = SetData::new(0, Some(0), 2, Vec::new(alloc), L::empty(alloc));
     match Sets::of(vec![in alloc; points, links]?) {
         Ok(sets) => Ok(sets),
         Err(_) => Err(Fail::new("a bad endpoint")),

@@ -1,4 +1,4 @@
-//! The tests of the calls that run typed programs: what no public clause says.
+//! The tests of the calls that run typed programs, and of those that ask about them: what no public clause says.
 //!
 //! Each module is about one subject.
 #![tactic(auto)]
@@ -8,7 +8,11 @@ mod both_runs;
 #[cfg(test)]
 mod combined;
 #[cfg(test)]
+mod dense;
+#[cfg(test)]
 mod endings;
+#[cfg(test)]
+mod fields;
 #[cfg(test)]
 mod graphs;
 #[cfg(test)]
