@@ -135,6 +135,19 @@ pub fn assert_end(
     Ok(())
 }
 
+/// The output of a call that is done.
+pub fn output_of(rt: &(impl Abort + AllocGlobal), call: Call<'_>) -> Result<Vec<u8>, Fail> {
+    let alloc = rt.alloc();
+    let words = strings(alloc, call.words)?;
+    let mut inputs = inputs_of(alloc, call)?;
+    let mut out = sink(alloc, call.out, call.put)?;
+    let mut notes = sink(alloc, call.notes, call.put)?;
+    let status = run(alloc, &words, &mut inputs, &mut out, &mut notes);
+    assert_eq!(rt; status, Status::Done);
+    assert!(rt; notes.bytes().is_empty());
+    Ok(out.bytes().to_vec(alloc)?)
+}
+
 /// Asserts how `run a.sim points.csv` ends over these two files.
 pub fn assert_over_points(
     rt: &(impl Abort + AllocGlobal),

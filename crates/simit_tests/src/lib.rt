@@ -10,6 +10,8 @@ mod calls;
 #[cfg(test)]
 mod faults;
 #[cfg(test)]
+mod gradients;
+#[cfg(test)]
 mod limits;
 #[cfg(test)]
 mod loops;
