@@ -5,8 +5,22 @@ use simit_run::Status;
 use std::test::Fail;
 use worked_texts::{POINTS, POINTS_AND_SPRINGS, RATIO};
 
+/// Two maps after each other, each of which divides by what may be zero.
+const TWO_RATIOS: &str =
+    "func ratio(s : Spring, p : (Point*2)) -> (K : matrix[points,points](int(0)))
+  K(p(0),p(1)) = quot(100, s.k, 0);
+end
+func other(s : Spring, p : (Point*2)) -> (K : matrix[points,points](int(0)))
+  K(p(0),p(1)) = quot(1, s.k - 1, 0);
+end
+proc main
+  var K = map ratio to springs reduce +;
+  var M = map other to springs reduce +;
+end
+";
+
 /// Programs, their tables, and the note of the trap that ends their run.
-static TRAPS: [Row; 11] = [
+static TRAPS: [Row; 15] = [
     (
         &[
             "element Point
@@ -95,22 +109,14 @@ end
         "trap at line 14, element 3: division by zero\n",
     ),
     (
-        &[
-            POINTS_AND_SPRINGS,
-            "func ratio(s : Spring, p : (Point*2)) -> (K : matrix[points,points](int(0)))
-  K(p(0),p(1)) = quot(100, s.k, 0);
-end
-func other(s : Spring, p : (Point*2)) -> (K : matrix[points,points](int(0)))
-  K(p(0),p(1)) = quot(1, s.k - 1, 0);
-end
-proc main
-  var K = map ratio to springs reduce +;
-  var M = map other to springs reduce +;
-end
-",
-        ],
+        &[POINTS_AND_SPRINGS, TWO_RATIOS],
         &[POINTS, "p0,p1,k\n0,1,1\n1,2,0\n"],
         "trap at line 17, element 1: division by zero\n",
+    ),
+    (
+        &[POINTS_AND_SPRINGS, TWO_RATIOS],
+        &[POINTS, "p0,p1,k\n0,1,0\n"],
+        "trap at line 17, element 0: division by zero\n",
     ),
     (
         &[
@@ -172,6 +178,21 @@ end
         ],
         &[ONE_AND_TWO],
         "trap at line 7: division by zero\n",
+    ),
+    (
+        &["proc main\n  var a = isqrt(-0.01, 2);\nend\n"],
+        &[],
+        "trap at line 2: root of a negative number\n",
+    ),
+    (
+        &["proc main\n\n  assert quot(1.00, 0.00, 2) == 0.00;\nend\n"],
+        &[],
+        "trap at line 3: division by zero\n",
+    ),
+    (
+        &["proc main\n  for i in 0:quot(1, 0, 0)\n  end\nend\n"],
+        &[],
+        "trap at line 2: division by zero\n",
     ),
 ];
 
