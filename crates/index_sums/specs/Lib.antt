@@ -1,0 +1,2 @@
+pub mod IndexSums
+pub mod Laws
