@@ -1,0 +1,5 @@
+pub mod Atoms
+pub mod ChainForm
+pub mod Following
+pub mod Lowered
+pub mod Lowering
