@@ -1,5 +1,5 @@
 -- Sums over all values of named indices, and products over lists.
-use Rattle.std.specs.Prelude.{ℕ, ◌*◌, List, [], ◌∷◌, ◌++◌, sum_by, if◌then◌else◌}
+use Rattle.std.specs.Prelude.{ℕ, ◌+◌, ◌*◌, Bool, List, [], ◌∷◌, ◌++◌, sum_by, if◌then◌else◌}
 use Rattle.std.specs.List.{range_with_len}
 use Rattle.std.specs.Str.{bytes_eq}
 
@@ -27,3 +27,8 @@ product_by factor (x ∷ xs) = factor x * product_by factor xs
 pub data IsReordered {A : Type 0} : List A → List A → Type 0 where
   nothing : IsReordered [] []
   moved : (x : A) (rest before after : List A) → IsReordered rest (before ++ after) → IsReordered (x ∷ rest) (before ++ x ∷ after)
+
+-- how often x stands in a list
+abbrev pub times : {A : Type 0} → (A → A → Bool) → A → List A → ℕ
+times same x [] = 0
+times same x (y ∷ ys) = (if same x y then 1 else 0) + times same x ys

@@ -1,6 +1,7 @@
 -- The laws of sums over all values of indices.
-use Rattle.std.specs.Prelude.{◌≡◌, ℕ, ◌*◌, ◌%◌, List, [], ◌∷◌, ◌++◌}
-use Rattle.index_sums.specs.IndexSums.{Name, Values, with_index, over_all, product_by, IsReordered}
+use Rattle.std.specs.Prelude.{◌≡◌, ℕ, ◌*◌, ◌%◌, Bool, List, [], ◌∷◌, ◌++◌}
+use Rattle.std.specs.Bool.{Decides}
+use Rattle.index_sums.specs.IndexSums.{Name, Values, with_index, over_all, product_by, times, IsReordered}
 
 -- a term in which an index doesn't stand
 abbrev pub Lacks : Name → (Values → ℕ) → Type 0
@@ -33,3 +34,8 @@ pub record IndexSumLaws : Type 0 where
 pub record ProductLaws (A : Type 0) : Type 0 where
   pub appended : (factor : A → ℕ) (xs ys : List A) → product_by factor (xs ++ ys) ≡ product_by factor xs * product_by factor ys
   pub any_order : (factor : A → ℕ) (xs ys : List A) → IsReordered xs ys → product_by factor xs ≡ product_by factor ys
+
+-- lists that have each element as often are reordered
+pub record ReorderLaws (A : Type 0) : Type 0 where
+  pub by_times : (same : A → A → Bool) → ((x y : A) → Decides (same x y) (x ≡ y)) → (xs ys : List A) → ((x : A) → times same x xs ≡ times same x ys)
+      → IsReordered xs ys
