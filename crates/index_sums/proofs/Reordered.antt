@@ -1,8 +1,9 @@
 -- Lists with the same elements, each as often.
 use Rattle.std.proofs.Common.{◌≡◌, ℕ, zero, suc, ◌+◌, ◌<◌, Bool, true, false, List, [], ◌∷◌, ◌++◌, refl, sym, ap, ◌∙◌, inl, inr, subst, arith}
-use Rattle.std.specs.Prelude.{◌⊎◌, if◌then◌else◌}
+use Rattle.std.specs.Prelude.{◌⊎◌, sum_by, if◌then◌else◌}
 use Rattle.std.specs.Bool.{Decides}
 use Rattle.std.proofs.lemmas.Bool.{cases_Bool}
+use Rattle.std.proofs.lemmas.List.Sums.{sum_by-cons}
 use Rattle.index_sums.specs.IndexSums.{IsReordered, times}
 use Rattle.index_sums.specs.IndexSums.IsReordered.{nothing, moved}
 
@@ -53,3 +54,20 @@ module _ {A : Type 0} (same : A → A → Bool) (decides : (x y : A) → Decides
       rest part z =
           cancelled (one_if (same z x)) (times same z xs) (times same z (part.before ++ part.after))
             (counts z ∙ ap (times same z) part.is ∙ times_middle z x part.before part.after)
+
+-- ---- sums of reordered lists
+
+module _ {A : Type 0} where
+  sum_middle : (f : A → ℕ) (x : A) (before after : List A) → sum_by f (before ++ x ∷ after) ≡ f x + sum_by f (before ++ after)
+  sum_middle f x [] after = sum_by-cons f x after
+  sum_middle f x (y ∷ before) after =
+      sum_by-cons f y (before ++ x ∷ after) ∙ ap (λ s. f y + s) (sum_middle f x before after) ∙ exchanged (f y) (f x) (sum_by f (before ++ after))
+      ∙ ap (λ s. f x + s) (sym (sum_by-cons f y (before ++ after)))
+    where
+      exchanged : (a b c : ℕ) → a + (b + c) ≡ b + (a + c)
+      exchanged a b c = omega arith
+
+  pub sums : (f : A → ℕ) (xs ys : List A) → IsReordered xs ys → sum_by f xs ≡ sum_by f ys
+  sums f xs ys nothing = refl
+  sums f xs ys (moved x rest before after same) =
+      sum_by-cons f x rest ∙ ap (λ s. f x + s) (sums f rest (before ++ after) same) ∙ sym (sum_middle f x before after)

@@ -30,7 +30,7 @@ again at name v w = fun_ext (λ other. by_case other (cases_Bool (bytes_eq name 
         ∙ sym (if_false (bytes_eq name other) w (at other) differs)
 
 -- values of two different indices, in either order
-either_order : (at : Values) (a b : Name) (v w : ℕ) → bytes_eq a b ≡ false → with_index (with_index at a v) b w ≡ with_index (with_index at b w) a v
+pub either_order : (at : Values) (a b : Name) (v w : ℕ) → bytes_eq a b ≡ false → with_index (with_index at a v) b w ≡ with_index (with_index at b w) a v
 either_order at a b v w differ = fun_ext (λ other. by_case other (cases_Bool (bytes_eq a other)) (cases_Bool (bytes_eq b other)))
   where
     by_case : (other : Name) → (bytes_eq a other ≡ true) ⊎ (bytes_eq a other ≡ false) → (bytes_eq b other ≡ true) ⊎ (bytes_eq b other ≡ false)

@@ -1,6 +1,7 @@
 -- The laws of sums over all values of indices.
-use Rattle.std.specs.Prelude.{◌≡◌, ℕ, ◌*◌, ◌%◌, Bool, List, [], ◌∷◌, ◌++◌}
+use Rattle.std.specs.Prelude.{◌≡◌, ℕ, ◌*◌, ◌%◌, Bool, false, List, [], ◌∷◌, ◌++◌, sum_by}
 use Rattle.std.specs.Bool.{Decides}
+use Rattle.std.specs.Str.{bytes_eq}
 use Rattle.index_sums.specs.IndexSums.{Name, Values, with_index, over_all, product_by, times, IsReordered}
 
 -- a term in which an index doesn't stand
@@ -13,6 +14,8 @@ LacksAll [] term = Unit {0}
 LacksAll (name ∷ names) term = Lacks name term × LacksAll names term
 
 pub record IndexSumLaws : Type 0 where
+  -- values of two different indices, in either order
+  pub either_order : (at : Values) (a b : Name) (v w : ℕ) → bytes_eq a b ≡ false → with_index (with_index at a v) b w ≡ with_index (with_index at b w) a v
   pub appended : (size : Name → ℕ) (names others : List Name) (term : Values → ℕ) (at : Values)
       → over_all size (names ++ others) term at ≡ over_all size names (over_all size others term) at
   -- a factor in which none of the indices stands
@@ -35,7 +38,8 @@ pub record ProductLaws (A : Type 0) : Type 0 where
   pub appended : (factor : A → ℕ) (xs ys : List A) → product_by factor (xs ++ ys) ≡ product_by factor xs * product_by factor ys
   pub any_order : (factor : A → ℕ) (xs ys : List A) → IsReordered xs ys → product_by factor xs ≡ product_by factor ys
 
--- lists that have each element as often are reordered
+-- lists that have each element as often are reordered, and have the same sums
 pub record ReorderLaws (A : Type 0) : Type 0 where
   pub by_times : (same : A → A → Bool) → ((x y : A) → Decides (same x y) (x ≡ y)) → (xs ys : List A) → ((x : A) → times same x xs ≡ times same x ys)
       → IsReordered xs ys
+  pub sums : (f : A → ℕ) (xs ys : List A) → IsReordered xs ys → sum_by f xs ≡ sum_by f ys

@@ -1,4 +1,4 @@
-use Rattle.index_sums.proofs.Sums.{appended, scaled, lacking, separated, any_order, congruent}
+use Rattle.index_sums.proofs.Sums.{either_order, appended, scaled, lacking, separated, any_order, congruent}
 use Rattle.index_sums.proofs.index_sum_laws.Goals as goal
 
 pub returns : goal.returns
@@ -6,6 +6,7 @@ returns c =
     let sums = c.sum_laws.ensures in
     let double = c.double_sum_laws.ensures in
     record {
+      either_order = either_order;
       appended = appended;
       scaled = scaled sums double;
       lacking = lacking;

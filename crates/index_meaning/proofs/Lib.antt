@@ -1,0 +1,7 @@
+mod Basics
+mod Links
+mod Names
+mod Paths
+mod Positions
+mod Scalars
+mod Terms

@@ -1,0 +1,3 @@
+pub mod TermSums
+pub mod LoweredValues
+pub mod Laws
