@@ -4,17 +4,17 @@ ghost use Rattle.std.specs.Prelude.{◌≡◌};
 ghost use Rattle.sim_grammar.specs.ReadExpressions.{expression};
 ghost use Rattle.sim_grammar.specs.ReadConditions as conditions;
 ghost use Rattle.sim_grammar.specs.ReadMain as spec;
-ghost use Rattle.sim_grammar.specs.Read.{Reader, spelt};
 ghost use Rattle.token_cursor.specs.Reads.{Reads};
-ghost use Rattle.token_cursor.specs.Nests.{Follows, Nests};
+ghost use Rattle.token_cursor.specs.Nests.{Nests};
 
 use crate::statements::Statements;
-use expression_parser::{condition, expression, ix, maybe_arguments, maybe_field};
+use assignment_parser::{assign, var};
+use expression_parser::{condition, expression};
 use sim_lexer::{TokenKind, keyword, symbol};
-use sim_syntax::{Name, Right, Stmt, Target};
+use sim_syntax::Stmt;
 use sqlite_items::Items;
 use std::alloc::Global;
-use token_cursor::{Cursor, Halt, separated, with_first};
+use token_cursor::{Cursor, Halt};
 
 /// What a statement of the main procedure begins with.
 fn starts() -> [TokenKind; 6]
@@ -28,141 +28,6 @@ fn starts() -> [TokenKind; 6]
         TokenKind::Keyword(keyword::ASSERT),
         TokenKind::Name,
     ]
-}
-
-/// A target.
-#[tactic(auto, unfolding(sim_grammar::specs::ReadMain::target))]
-fn target(alloc: Global, cursor: &mut Cursor<'_>) -> Result<Target, Halt>
-    ensures { Reads (spec.target cursor.old) result cursor.new }
-{
-    let line = cursor.line();
-    let name = cursor.name(alloc)?;
-    let field = maybe_field(alloc, cursor)?;
-    Ok(Target { line, name, field })
-}
-
-/// A map.
-#[tactic(auto, unfolding(sim_grammar::specs::ReadMain::map_right))]
-fn map_right(alloc: Global, cursor: &mut Cursor<'_>, depth: usize) -> Result<Right, Halt>
-    ensures { Reads (spec.map_right (expression depth) cursor.old) result cursor.new }
-{
-    let line = cursor.line();
-    cursor.skip(&[TokenKind::Keyword(keyword::MAP)])?;
-    let func = cursor.name(alloc)?;
-    let args = maybe_arguments(alloc, cursor, depth)?;
-    cursor.skip(&[TokenKind::Keyword(keyword::TO)])?;
-    let set = cursor.name(alloc)?;
-    cursor.skip(&[
-        TokenKind::Keyword(keyword::REDUCE),
-        TokenKind::Symbol(symbol::PLUS),
-    ])?;
-    Ok(Right::Map {
-        line,
-        func,
-        args,
-        set,
-    })
-}
-
-/// An expression as a right side.
-#[tactic(auto, unfolding(sim_grammar::specs::ReadMain::value_right))]
-fn value_right(alloc: Global, cursor: &mut Cursor<'_>, depth: usize) -> Result<Right, Halt>
-    ensures { Reads (spec.value_right (expression depth) cursor.old) result cursor.new }
-{
-    let value = expression(alloc, cursor, depth)?;
-    Ok(Right::Value(value))
-}
-
-/// A right side.
-#[tactic(auto, unfolding(sim_grammar::specs::ReadMain::right))]
-fn right(alloc: Global, cursor: &mut Cursor<'_>, depth: usize) -> Result<Right, Halt>
-    ensures { Reads (spec.right (expression depth) cursor.old) result cursor.new }
-{
-    if cursor.is_at(TokenKind::Keyword(keyword::MAP)) {
-        map_right(alloc, cursor, depth)
-    } else if cursor.is_at(TokenKind::Keyword(keyword::IX)) {
-        ix(alloc, cursor)
-    } else {
-        value_right(alloc, cursor, depth)
-    }
-}
-
-/// The right side, or further names or targets after commas and a map.
-#[tactic(auto, unfolding(sim_grammar::specs::ReadMain::sides))]
-fn sides<T: Drop, P: Fn(&mut Cursor<'_>) -> Result<T, Halt>>(
-    alloc: Global,
-    depth: usize,
-    part: P,
-    cursor: &mut Cursor<'_>,
-) -> Result<(Items<T>, Right), Halt>
-    requires { P.IsAlwaysCallable part }
-    ensures { (reader : Reader T) → Follows reader (P.post part) → Reads (spec.sides (expression depth) reader cursor.old) result cursor.new }
-{
-    if cursor.is_at(TokenKind::Symbol(symbol::ASSIGN)) {
-        cursor.skip(&[TokenKind::Symbol(symbol::ASSIGN)])?;
-        let side = right(alloc, cursor, depth)?;
-        return Ok((Items::new(alloc), side));
-    }
-    cursor.skip(&[TokenKind::Symbol(symbol::COMMA)])?;
-    let others = separated(alloc, TokenKind::Symbol(symbol::COMMA), part, cursor)?;
-    cursor.skip(&[TokenKind::Symbol(symbol::ASSIGN)])?;
-    let side = map_right(alloc, cursor, depth)?;
-    Ok((others, side))
-}
-
-/// The right side of new variables, and the further names.
-fn name_sides(
-    alloc: Global,
-    cursor: &mut Cursor<'_>,
-    depth: usize,
-) -> Result<(Items<Name>, Right), Halt>
-    ensures { Reads (spec.sides (expression depth) (spelt TokenKind.Name) cursor.old) result cursor.new }
-{
-    let part = |c: &mut Cursor<'_>| c.name(alloc);
-    sides(alloc, depth, part, cursor)
-}
-
-/// The right side of an assignment, and the further targets.
-fn target_sides(
-    alloc: Global,
-    cursor: &mut Cursor<'_>,
-    depth: usize,
-) -> Result<(Items<Target>, Right), Halt>
-    ensures { Reads (spec.sides (expression depth) spec.target cursor.old) result cursor.new }
-{
-    let part = |c: &mut Cursor<'_>| target(alloc, c);
-    sides(alloc, depth, part, cursor)
-}
-
-/// New variables.
-#[tactic(auto, unfolding(sim_grammar::specs::ReadMain::var))]
-fn var(alloc: Global, cursor: &mut Cursor<'_>, depth: usize) -> Result<Stmt, Halt>
-    ensures { Reads (spec.var (expression depth) cursor.old) result cursor.new }
-{
-    let line = cursor.line();
-    cursor.skip(&[TokenKind::Keyword(keyword::VAR)])?;
-    let first = cursor.name(alloc)?;
-    let (others, right) = name_sides(alloc, cursor, depth)?;
-    cursor.skip(&[TokenKind::Symbol(symbol::SEMICOLON)])?;
-    let names = with_first(alloc, first, others)?;
-    Ok(Stmt::Var { line, names, right })
-}
-
-/// An assignment.
-#[tactic(auto, unfolding(sim_grammar::specs::ReadMain::assign))]
-fn assign(alloc: Global, cursor: &mut Cursor<'_>, depth: usize) -> Result<Stmt, Halt>
-    ensures { Reads (spec.assign (expression depth) cursor.old) result cursor.new }
-{
-    let line = cursor.line();
-    let first = target(alloc, cursor)?;
-    let (others, right) = target_sides(alloc, cursor, depth)?;
-    cursor.skip(&[TokenKind::Symbol(symbol::SEMICOLON)])?;
-    let targets = with_first(alloc, first, others)?;
-    Ok(Stmt::Assign {
-        line,
-        targets,
-        right,
-    })
 }
 
 impl<F: Fn(Global, &mut Cursor<'_>, usize) -> Result<Stmt, Halt>> Statements<F> {

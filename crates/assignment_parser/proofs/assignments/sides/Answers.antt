@@ -4,8 +4,8 @@ use Rattle.sim_lexer.specs.declared.token.symbol.TheConstants as symbol
 use Rattle.sim_grammar.specs.Rule.{sym}
 use Rattle.sim_grammar.specs.Read.{starts, skip}
 use Rattle.sim_grammar.specs.ReadExpressions.{expression}
-use Rattle.statement_parser.proofs.Sides.{others_halt}
-use Rattle.statement_parser.proofs.main_procedure.sides.Goals as goal
+use Rattle.assignment_parser.proofs.Sides.{others_halt}
+use Rattle.assignment_parser.proofs.assignments.sides.Goals as goal
 
 pub returns-in_err-others : goal.returns-in_err-others
 returns-in_err-others g c = λ reader follows.
