@@ -5,14 +5,16 @@ use mathlib.Core.Logic.{inl, inr}
 use Rattle.simit_io.specs.Inputs.{Files}
 use Rattle.simit_io.specs.Sink.{Puts, PutsPrefix}
 use Rattle.simit_run.specs.Answer.{answer_of, command_stage}
-use Rattle.simit_run.specs.Command.{Command, command_of}
-use Rattle.simit_run.specs.Ending.{Ending, IsShown, MayEnd, PutsNote, cut_off, ending_of, names_of, note_of, status_of, usage_note}
+use Rattle.run_notes.specs.Command.{Command}
+use Rattle.run_notes.specs.Notes.{PutsNote, note_of, usage_note}
+use Rattle.simit_run.specs.Command.{command_of}
+use Rattle.simit_run.specs.Ending.{Ending, IsShown, MayEnd, cut_off, ending_of, names_of, status_of}
 use Rattle.simit_run.specs.Shown.{ShowsFailure}
 use Rattle.simit_run.specs.declared.status.Status.{Status}
 use Rattle.simit_run.specs.declared.status.Status.TheVariants as status
-use Rattle.simit_run.specs.declared.failure.Refusal.TheVariants.{Words}
-use Rattle.simit_run.specs.declared.failure.Failure.{Failure}
-use Rattle.simit_run.specs.declared.failure.Failure.TheVariants.{Memory, ReadFault, Refused}
+use Rattle.run_notes.specs.declared.failure.Refusal.TheVariants.{Words}
+use Rattle.run_notes.specs.declared.failure.Failure.{Failure}
+use Rattle.run_notes.specs.declared.failure.Failure.TheVariants.{Memory, ReadFault, Refused}
 
 -- the answer of words that are no command, and of a command
 answer_none : (words : List (List ℕ)) (files : Files) → command_of words ≡ None → (answer_of words).answer files ≡ Err (Refused Words)

@@ -3,7 +3,6 @@ pub mod Reading
 pub mod SetsRead
 pub mod Outcomes
 pub mod Texts
-pub mod Pieces
 pub mod WordsRead
 pub mod Endings
 mod Lines

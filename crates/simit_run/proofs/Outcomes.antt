@@ -10,9 +10,9 @@ use Rattle.global_algebra.specs.Ending.{ending_of}
 use Rattle.global_algebra.specs.declared.ending.Ending.TheVariants.{Done, Trap, Spent}
 use Rattle.simit_run.specs.Output.{sets_after}
 use Rattle.simit_run.specs.Stage.{refused}
-use Rattle.simit_run.specs.declared.limits.TheConstants.{USUAL_TURNS}
-use Rattle.simit_run.specs.declared.failure.Failure.TheVariants.{Refused}
-use Rattle.simit_run.specs.declared.failure.Refusal.TheVariants.{Stopped}
+use Rattle.run_notes.specs.declared.limits.TheConstants.{USUAL_TURNS}
+use Rattle.run_notes.specs.declared.failure.Failure.TheVariants.{Refused}
+use Rattle.run_notes.specs.declared.failure.Refusal.TheVariants.{Stopped}
 
 ok-of : (outcome : Result (List SetValue) Stop) (after : List SetValue) → Done after ≡ ending_of outcome → outcome ≡ Ok after
 ok-of (Ok sets) after same = cc same

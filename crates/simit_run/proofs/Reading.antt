@@ -9,15 +9,15 @@ use Rattle.simit_io.specs.Inputs.{Files, Rose}
 use Rattle.hypergraph.specs.SetValue.{SetValue}
 use Rattle.typed_tree.specs.declared.program.TypedProgram.{TypedProgram}
 use Rattle.simit_run.specs.Answer.{command_stage, names_for, program_stage, set_in, set_stage, tables_stage, with_set}
-use Rattle.simit_run.specs.Command.{Command}
+use Rattle.run_notes.specs.Command.{Command}
 use Rattle.simit_run.specs.Output.{output_of}
 use Rattle.simit_run.specs.ProgramText.{typed_of}
 use Rattle.simit_run.specs.Shown.{GoesOn, Shows, ShowsFailure}
 use Rattle.simit_run.specs.Stage.{Stage, decided, file, fold_stages, refused, ◌>>=◌}
-use Rattle.simit_run.specs.declared.role.FileRole.TheVariants as role
-use Rattle.simit_run.specs.declared.failure.Failure.{Failure}
-use Rattle.simit_run.specs.declared.failure.Failure.TheVariants.{Memory, Refused}
-use Rattle.simit_run.specs.declared.failure.Refusal.TheVariants.{FileCount}
+use Rattle.run_notes.specs.declared.role.FileRole.TheVariants as role
+use Rattle.run_notes.specs.declared.failure.Failure.{Failure}
+use Rattle.run_notes.specs.declared.failure.Failure.TheVariants.{Memory, Refused}
+use Rattle.run_notes.specs.declared.failure.Refusal.TheVariants.{FileCount}
 use Rattle.simit_run.proofs.StagesShown.{fails_first, fold_end, fold_fails, fold_next, file_then_fails, file_then_gives, gives_decided, goes_further, goes_next, shows_decided, shows_whole}
 
 -- ---- the program's file

@@ -6,10 +6,10 @@ use Rattle.simit_io.specs.Inputs.{Files, IsMissing}
 use Rattle.simit_run.specs.Shown.{GoesOn, Shows, ShowsFailure}
 use Rattle.vocabulary.specs.Answers.{Answers}
 use Rattle.simit_run.specs.Stage.{Stage, decided, file, fold_stages, reads_after, refused, ◌>>=◌}
-use Rattle.simit_run.specs.declared.role.FileRole.{FileRole}
-use Rattle.simit_run.specs.declared.failure.Refusal.{Refusal}
-use Rattle.simit_run.specs.declared.failure.Failure.{Failure}
-use Rattle.simit_run.specs.declared.failure.Failure.TheVariants.{Memory, ReadFault, Refused}
+use Rattle.run_notes.specs.declared.role.FileRole.{FileRole}
+use Rattle.run_notes.specs.declared.failure.Refusal.{Refusal}
+use Rattle.run_notes.specs.declared.failure.Failure.{Failure}
+use Rattle.run_notes.specs.declared.failure.Failure.TheVariants.{Memory, ReadFault, Refused}
 
 -- ---- one stage
 

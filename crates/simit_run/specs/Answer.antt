@@ -9,13 +9,14 @@ use Rattle.block_types.specs.Readings.{over}
 use Rattle.set_tables.specs.Table.{table_set}
 use Rattle.set_tables.specs.declared.faults.TableFault.{TableFault}
 use Rattle.write_back.specs.Schemas.{schema_of}
-use Rattle.simit_run.specs.Command.{Command, command_of}
+use Rattle.run_notes.specs.Command.{Command}
+use Rattle.simit_run.specs.Command.{command_of}
 use Rattle.simit_run.specs.Output.{output_of}
 use Rattle.simit_run.specs.ProgramText.{typed_of}
 use Rattle.simit_run.specs.Stage.{Stage, decided, file, fold_stages, ◌>>=◌}
-use Rattle.simit_run.specs.declared.role.FileRole.TheVariants as role
-use Rattle.simit_run.specs.declared.failure.Refusal.{Refusal}
-use Rattle.simit_run.specs.declared.failure.Refusal.TheVariants.{Words, FileCount, Table}
+use Rattle.run_notes.specs.declared.role.FileRole.TheVariants as role
+use Rattle.run_notes.specs.declared.failure.Refusal.{Refusal}
+use Rattle.run_notes.specs.declared.failure.Refusal.TheVariants.{Words, FileCount, Table}
 
 -- the typed program that the file of a name states
 unfoldable pub program_stage : List ℕ → Stage TypedProgram

@@ -11,9 +11,9 @@ use Rattle.set_tables.specs.Output.{table_text}
 use Rattle.set_tables.specs.declared.schema.Schema.{Schema}
 use Rattle.write_back.specs.Schemas.{schema_of}
 use Rattle.dense_sizes.specs.declared.limit.TheConstants.{MOST_DENSE_WORDS}
-use Rattle.simit_run.specs.declared.limits.TheConstants.{USUAL_TURNS}
-use Rattle.simit_run.specs.declared.failure.Refusal.{Refusal}
-use Rattle.simit_run.specs.declared.failure.Refusal.TheVariants.{DenseWords, Stopped}
+use Rattle.run_notes.specs.declared.limits.TheConstants.{USUAL_TURNS}
+use Rattle.run_notes.specs.declared.failure.Refusal.{Refusal}
+use Rattle.run_notes.specs.declared.failure.Refusal.TheVariants.{DenseWords, Stopped}
 
 -- the schemas of a program's sets, in the order of their declarations
 unfoldable pub schemas_of : TypedProgram → List Schema

@@ -5,7 +5,6 @@ use Rattle.vocabulary.specs.Answers.{◌>>=◌}
 use Rattle.sim_lexer.specs.Tokens.{line_at, tokens}
 use Rattle.sim_lexer.specs.Words.{Word, words_of}
 use Rattle.sim_lexer.specs.declared.token.LexFault.{LexFault}
-use Rattle.sim_lexer.specs.declared.token.LexFault.TheVariants as fault
 use Rattle.sim_grammar.specs.ReadProgram.{program_in}
 use Rattle.sim_grammar.specs.Rule.{line_of}
 use Rattle.sim_syntax.specs.Indices.{has_index_expression}
@@ -14,16 +13,9 @@ use Rattle.typed_tree.specs.Typed.{typed}
 use Rattle.typed_tree.specs.declared.program.TypedProgram.{TypedProgram}
 use Rattle.typed_tree.specs.declared.fault.CheckFault.{CheckFault}
 use Rattle.typed_tree.specs.declared.fault.CheckFault.TheVariants as check
-use Rattle.simit_run.specs.declared.failure.Refusal.{Refusal}
-use Rattle.simit_run.specs.declared.failure.Refusal.TheVariants.{Lexical, Syntax, IllTyped, NotYet}
-
--- the offset that a lexical fault names
-abbrev pub offset_of : LexFault → ℕ
-offset_of (fault.BadByte at) = at
-offset_of (fault.LongName at) = at
-offset_of (fault.TooMany at) = at
-offset_of (fault.TooDeep at) = at
-offset_of fault.Memory = 0
+use Rattle.run_notes.specs.Notes.{offset_of}
+use Rattle.run_notes.specs.declared.failure.Refusal.{Refusal}
+use Rattle.run_notes.specs.declared.failure.Refusal.TheVariants.{Lexical, Syntax, IllTyped, NotYet}
 
 -- a lexical fault of a text as a refusal, with the line of the byte that it names
 abbrev pub lexical : {A : Type 0} → List ℕ → Result A LexFault → Result A Refusal

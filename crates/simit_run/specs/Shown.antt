@@ -1,16 +1,10 @@
 -- What a call shows of a stage of the answer: words of the contracts inside this crate alone.
-use Rattle.std.specs.Prelude.{◌≡◌, ⊤, ◌⊎◌, List, map, string_bytes, Option, None, Some, IfSome, Result, Ok, Err, Contains}
+use Rattle.std.specs.Prelude.{◌≡◌, ⊤, ◌⊎◌, List, Option, None, Some, IfSome, Result, Ok, Err, Contains}
 use Rattle.simit_io.specs.Inputs.{Files}
-use Rattle.simit_run.specs.Command as spec
 use Rattle.simit_run.specs.Stage.{Stage}
-use Rattle.simit_run.specs.declared.command.Command.{Command}
-use Rattle.simit_run.specs.declared.role.FileRole.{FileRole}
-use Rattle.simit_run.specs.declared.failure.Failure.{Failure}
-use Rattle.simit_run.specs.declared.failure.Failure.TheVariants.{Memory, ReadFault, Refused}
-
--- the names that a command has
-abbrev pub shown : Command → spec.Command
-shown command = record { program = command.program.now; tables = map string_bytes command.tables.now }
+use Rattle.run_notes.specs.declared.role.FileRole.{FileRole}
+use Rattle.run_notes.specs.declared.failure.Failure.{Failure}
+use Rattle.run_notes.specs.declared.failure.Failure.TheVariants.{Memory, ReadFault, Refused}
 
 -- a failure that needn't come of the files: out of memory, or a fault that was counted at one of the files that are read
 abbrev pub IsFree : Type 0 → List FileRole → Failure → Type 0

@@ -1,14 +1,13 @@
 -- Stages of the answer: what each gives of the files that are there, and which files it reads.
 use Rattle.std.specs.Prelude.{ℕ, nat_lt, List, [], ◌∷◌, ◌++◌, length, Option, Some, None, Result, Ok, Err, if◌then◌else◌}
 use Rattle.vocabulary.specs.Answers as answers
-use Rattle.vocabulary.specs.declared.limits.TheConstants.{MOST_PROGRAM_BYTES, MOST_TABLE_BYTES}
 use Rattle.simit_io.specs.Inputs.{Files}
-use Rattle.simit_run.specs.declared.role.FileRole.{FileRole}
-use Rattle.simit_run.specs.declared.role.FileRole.TheVariants.{Program, Table}
-use Rattle.simit_run.specs.declared.failure.Failure.{Failure}
-use Rattle.simit_run.specs.declared.failure.Failure.TheVariants.{ReadFault, Refused}
-use Rattle.simit_run.specs.declared.failure.Refusal.{Refusal}
-use Rattle.simit_run.specs.declared.failure.Refusal.TheVariants.{FileLimit}
+use Rattle.run_notes.specs.Command.{limit_of}
+use Rattle.run_notes.specs.declared.role.FileRole.{FileRole}
+use Rattle.run_notes.specs.declared.failure.Failure.{Failure}
+use Rattle.run_notes.specs.declared.failure.Failure.TheVariants.{ReadFault, Refused}
+use Rattle.run_notes.specs.declared.failure.Refusal.{Refusal}
+use Rattle.run_notes.specs.declared.failure.Refusal.TheVariants.{FileLimit}
 
 pub record Stage (A : Type 0) : Type 0 where
   -- a value, or why there is none
@@ -42,11 +41,6 @@ first >>= next = record {
 unfoldable pub fold_stages : {A B : Type 0} → (A → B → Stage A) → A → List B → Stage A
 fold_stages step start [] = decided (Ok start)
 fold_stages step start (x ∷ xs) = step start x >>= λ next. fold_stages step next xs
-
--- the most bytes that a file may have
-abbrev pub limit_of : FileRole → ℕ
-limit_of Program = MOST_PROGRAM_BYTES
-limit_of (Table number) = MOST_TABLE_BYTES
 
 -- what becomes of reading a file, from what is held under its name
 abbrev pub file_answer : FileRole → Option (List ℕ) → Result (List ℕ) Failure

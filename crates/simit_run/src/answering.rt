@@ -9,16 +9,13 @@ ghost use Rattle.hypergraph.specs.Sets.{AllLieOverEarlier, endpoint_bound, set_a
 ghost use Rattle.run_laws.specs.Shapes.{DifferInWords};
 ghost use Rattle.simit_run.specs.Answer as spec;
 ghost use Rattle.simit_run.specs.Output.{few_dense_words, output_of, schemas_of, sets_after};
-ghost use Rattle.simit_run.specs.Shown.{Shows, shown};
+ghost use Rattle.run_notes.specs.Command.{shown};
+ghost use Rattle.simit_run.specs.Shown.{Shows};
 ghost use Rattle.simit_run.specs.Stage.{refused};
 ghost use Rattle.simit_run.specs.TableContracts.{AreRead, IsRunnable};
 
-use crate::command::Command;
-use crate::failure::{Failure, Refusal};
 use crate::front::read_program;
-use crate::limits::USUAL_TURNS;
 use crate::output::Output;
-use crate::role::FileRole;
 use crate::tables::{read_sets, schemas_of};
 use algebra_meaning::Stop;
 use block_types::Typed;
@@ -27,6 +24,7 @@ use global_algebra::Ending;
 use hypergraph::{SetData, Sets};
 use proc_engine::execute;
 use run_laws::shape_law;
+use run_notes::{Command, Failure, FileRole, Refusal, USUAL_TURNS};
 use set_tables::Schema;
 use simit_io::Inputs;
 use std::alloc::Global;

@@ -3,38 +3,10 @@
 ghost use Rattle.std.specs.Prelude.{◌≡◌, option_map, map, string_bytes};
 ghost use Rattle.std.specs.List.{list_all};
 ghost use Rattle.simit_run.specs.Command as spec;
-ghost use Rattle.simit_run.specs.Shown.{shown};
+ghost use Rattle.run_notes.specs.Command.{shown};
 
-use crate::role::FileRole;
+use run_notes::Command;
 use vocabulary::marks::MINUS;
-
-/// What the words ask for: to run the program of one file on the tables of others.
-#[derive(Clone, Copy)]
-pub struct Command<'a> {
-    /// The name of the program's file.
-    pub program: &'a str,
-    /// The names of the tables' files.
-    pub tables: &'a [String],
-}
-
-impl<'a> Command<'a> {
-    ghost use Rattle.std.specs.Prelude.{◌≡◌};
-    ghost use Rattle.simit_run.specs.Command as spec;
-    ghost use Rattle.simit_run.specs.Shown.{shown};
-
-    /// The name of the file of a role, empty where there are too few.
-    pub fn file_name(self, role: FileRole) -> &'a str
-        ensures { result.now ≡ spec.file_name (shown self.entry) role }
-    {
-        match role {
-            FileRole::Program => self.program,
-            FileRole::Table(number) => match self.tables.get(number as usize) {
-                Some(name) => name.as_str(),
-                None => "",
-            },
-        }
-    }
-}
 
 /// Whether a word can name a file: it is not empty and begins with no minus.
 fn names_file(word: &str) -> bool

@@ -13,11 +13,9 @@ ghost use Rattle.simit_run.specs.ProgramText as text;
 ghost use Rattle.simit_run.specs.Shown.{Shows};
 ghost use Rattle.simit_run.specs.Stage.{refused};
 
-use crate::failure::{Failure, Refusal};
 use crate::file::read_file;
-use crate::note::offset_of;
-use crate::role::FileRole;
 use block_types::{Typed, check};
+use run_notes::{Failure, FileRole, Refusal, offset_of};
 use sim_lexer::{LexFault, Token, Tokens, lex, line_at};
 use sim_parser::{ParseFault, parse};
 use sim_syntax::Lowered;

@@ -3,13 +3,9 @@
 
 mod answering;
 mod command;
-mod failure;
 mod file;
 mod front;
-mod limits;
-mod note;
 mod output;
-mod role;
 mod status;
 mod tables;
 mod top_call;

@@ -14,11 +14,10 @@ ghost use Rattle.simit_run.specs.Stage.{fold_stages, refused};
 ghost use Rattle.simit_run.specs.Shown.{Shows};
 ghost use Rattle.simit_run.specs.TableContracts.{AreRead, IsAsDeclared, IsReadable, IsRunnable};
 
-use crate::failure::{Failure, Refusal};
 use crate::file::read_file;
-use crate::role::FileRole;
 use block_types::Typed;
 use hypergraph::SetData;
+use run_notes::{Failure, FileRole, Refusal};
 use set_tables::{Schema, TableFault, read_table};
 use simit_io::Inputs;
 use std::alloc::Global;

@@ -2,15 +2,16 @@
 
 ghost use Rattle.std.specs.Prelude.{◌≡◌, ◌≢◌, ◌≤◌, IfSome, IfNone, Some, None, map, string_bytes};
 ghost use Rattle.simit_io.specs.Inputs.{Rose, IsMissing};
-ghost use Rattle.simit_run.specs.Command as stated;
-ghost use Rattle.simit_run.specs.Ending.{Ending, IsShown, MayEnd, PutsNote, memory_note, refusal_status, status_of, stop_status, usage_note, write_fault_note};
+ghost use Rattle.run_notes.specs.Command.{Command};
+ghost use Rattle.run_notes.specs.Notes.{PutsNote, memory_note, usage_note, write_fault_note};
+ghost use Rattle.simit_run.specs.Command.{command_of};
+ghost use Rattle.simit_run.specs.Ending.{Ending, IsShown, MayEnd, refusal_status, status_of, stop_status};
 
 use crate::answering::answer;
 use crate::command::read_words;
-use crate::failure::{Failure, Refusal};
-use crate::note::{put_note, put_usage, put_write_fault};
 use crate::status::Status;
 use algebra_meaning::Stop;
+use run_notes::{Failure, Refusal, put_note, put_usage, put_write_fault};
 use simit_io::{Failed, Inputs, Sink, putting_law};
 use std::alloc::Global;
 
@@ -76,11 +77,11 @@ pub fn run<I: Inputs, O: Sink, N: Sink>(
         × PutsNote (N.written notes.old) (N.written notes.new) (Rose (N.faults notes.old) (N.faults notes.new)) write_fault_note }
     ensures memory { result ≡ Status.Memory
         → PutsNote (N.written notes.old) (N.written notes.new) (Rose (N.faults notes.old) (N.faults notes.new)) memory_note }
-    ensures refused_words { stated.command_of (map string_bytes words.now) ≡ None → (result ≡ Status.Refused)
+    ensures refused_words { command_of (map string_bytes words.now) ≡ None → (result ≡ Status.Refused)
         × PutsNote (N.written notes.old) (N.written notes.new) (Rose (N.faults notes.old) (N.faults notes.new)) usage_note }
 
     // Where the program's file is known to be missing, no other answer comes, not even out of memory.
-    ensures missing { (command : stated.Command) → stated.command_of (map string_bytes words.now) ≡ Some command
+    ensures missing { (command : Command) → command_of (map string_bytes words.now) ≡ Some command
         → IsMissing (I.holds inputs.old) command.program → result ≡ Status.ReadFault }
 
     // Without an output nothing is put out; and what the call leaves of the inputs and of the counts.

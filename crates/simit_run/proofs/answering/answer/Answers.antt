@@ -1,6 +1,6 @@
 use Rattle.std.proofs.Common.{arith, ℕ, List, Ok, Err}
 use Rattle.std.proofs.lemmas.Result.{err_from_is_err_and}
-use Rattle.simit_run.specs.Shown.{shown}
+use Rattle.run_notes.specs.Command.{shown}
 use Rattle.simit_run.proofs.Reading.{command_fails_first, command_shows}
 use Rattle.simit_run.proofs.answering.answer.Goals as goal
 

@@ -2,7 +2,7 @@ use Rattle.std.proofs.Common.{◌≡◌, None, Some, refl, map, string_bytes, sy
 use Rattle.std.specs.Prelude.{option_map}
 use Rattle.simit_io.specs.Inputs.{Rose}
 use Rattle.simit_run.specs.Command.{command_of}
-use Rattle.simit_run.specs.Shown.{shown}
+use Rattle.run_notes.specs.Command.{shown}
 use Rattle.simit_run.proofs.Endings.{ends_cut, ends_done, ends_failed, ends_without_command}
 use Rattle.simit_run.proofs.top_call.run.Goals as goal
 
