@@ -1,14 +1,9 @@
 //! The types of programs: the typed program of a program's tree, or the first fault of it, and what is asked of it.
 #![tactic(auto)]
 
-mod elements;
-mod functions;
 mod laws;
-mod parameters;
 mod program;
 mod readings;
-mod rules;
-mod sets;
 mod typed;
 
 pub use laws::well_declared_law;

@@ -1,83 +1,27 @@
 //! Programs.
 
 ghost use Rattle.std.specs.Prelude.{◌≡◌};
-ghost use Rattle.vocabulary.specs.Answers.{Answers, fold_result};
+ghost use Rattle.vocabulary.specs.Answers.{Answers};
 ghost use Rattle.typed_tree.specs.declared.fault.CheckFault.TheVariants.{Memory};
-ghost use Rattle.typed_tree.specs.Steps.{Leads, Walks};
-ghost use Rattle.typed_tree.specs.Declarations as spec;
+ghost use Rattle.typed_tree.specs.Steps.{Walks};
 ghost use Rattle.typed_tree.specs.MainProcedure as main;
 ghost use Rattle.typed_tree.specs.Typed as whole;
 ghost use Rattle.typing_laws.specs.ProgramLaws.{ProgramLaws};
 ghost use Rattle.block_types.specs.Parts as parts;
 ghost use Rattle.block_types.specs.WellDeclared.{WellDeclaredLaw};
 
-use crate::elements::element_declaration;
-use crate::functions::function_declaration;
 use crate::laws::well_declared_law;
-use crate::sets::set_declaration;
 use crate::typed::Typed;
+use declaration_types::declarations;
 use main_types::main_statements;
-use sim_syntax::{Decl, Lowered, Program, Stmt};
+use sim_syntax::{Lowered, Program, Stmt};
 use sqlite_items::Items;
 use std::alloc::Global;
-use type_rules::TypeKind;
 use typed_tree::{
     CheckFault, Declarations, Environment, Level, MainStmt, Names, TypedProgram, Walk,
 };
 use typing_laws::program_typing_law;
 use vocabulary::L;
-
-/// A declaration.
-#[tactic(auto, unfolding(typed_tree::specs::Declarations::declaration))]
-fn declaration<'a>(alloc: Global, declared: &'a Decl, walk: &mut Walk<'a>) -> Result<(), CheckFault>
-    ensures { Leads (spec.declaration walk.old declared.now) result walk.new }
-{
-    match declared {
-        Decl::Element { line, name, fields } => {
-            element_declaration(alloc, *line, name, fields.as_slice(), walk)
-        }
-        Decl::Set {
-            line,
-            name,
-            element,
-            ends,
-        } => set_declaration(alloc, *line, name, element, ends.as_slice(), walk),
-        Decl::Host { line, .. } => Err(CheckFault::IllTyped {
-            line: *line,
-            kind: TypeKind::Unknown,
-        }),
-        Decl::Func {
-            line,
-            name,
-            params,
-            results,
-            body,
-        } => function_declaration(
-            alloc,
-            *line,
-            name,
-            params.as_slice(),
-            results.as_slice(),
-            body.as_slice(),
-            walk,
-        ),
-    }
-}
-
-/// Declarations, one after the other.
-#[tactic(auto, using(crate::proofs::Folds::one_more, crate::proofs::Folds::one_refused, crate::proofs::Folds::none_left))]
-fn declarations<'a>(
-    alloc: Global,
-    declared: &'a [Decl],
-    walk: &mut Walk<'a>,
-) -> Result<(), CheckFault>
-    ensures { Leads (fold_result spec.declaration walk.old declared.now) result walk.new }
-{
-    for one in declared {
-        declaration(alloc, one, walk)?;
-    }
-    Ok(())
-}
 
 /// A walk that begins: nothing is known.
 fn beginning<'a>(alloc: Global) -> Walk<'a>

@@ -13,7 +13,7 @@ use Rattle.typed_tree.specs.Cost.{body_cost}
 use Rattle.typed_tree.specs.declared.environment.Walk.{Walk}
 use Rattle.typed_tree.specs.Walking.{cut_back, is_visible}
 use Rattle.typed_tree.specs.Declarations.{faultless, function_fault, function_of, signature_of, signed, with_function}
-use Rattle.block_types.specs.declared.functions.Before.{Before}
+use Rattle.declaration_types.specs.declared.functions.Before.{Before}
 
 -- a signature with scalars before its own
 abbrev pub prepended : List ℕ → Option Signature → Option Signature

@@ -1,8 +1,8 @@
 use Rattle.std.proofs.Common.{◌≡◌, ◌||◌, sym, ap, ◌∙◌}
-use Rattle.block_types.specs.Reserved.{is_reserved_below}
-use Rattle.block_types.proofs.Reserved.{reserved_more}
-use Rattle.block_types.proofs.elements.is_reserved.Goals as goal
-use Rattle.block_types.proofs.elements.is_reserved.Goals.{then-reserved, else-reserved}
+use Rattle.declaration_types.specs.Reserved.{is_reserved_below}
+use Rattle.declaration_types.proofs.Reserved.{reserved_more}
+use Rattle.declaration_types.proofs.elements.is_reserved.Goals as goal
+use Rattle.declaration_types.proofs.elements.is_reserved.Goals.{then-reserved, else-reserved}
 
 pub loop-position-preserved : goal.loop-position-preserved
 loop-position-preserved c =

@@ -1,7 +1,7 @@
 use Rattle.std.proofs.Common.{◌≡◌, drop}
 use Rattle.typed_tree.specs.Declarations.{signature_of}
-use Rattle.block_types.specs.Functions.{prepended}
-use Rattle.block_types.proofs.functions.signature_of.Given as goal
+use Rattle.declaration_types.specs.Functions.{prepended}
+use Rattle.declaration_types.proofs.functions.signature_of.Given as goal
 
 -- the scalars so far stand before the signature of what is left
 abbrev pub invariant-loop-index : goal.invariant-loop-index

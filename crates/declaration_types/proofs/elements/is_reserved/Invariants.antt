@@ -1,6 +1,6 @@
 use Rattle.std.proofs.Common.{◌≡◌}
-use Rattle.block_types.specs.Reserved.{is_reserved_below}
-use Rattle.block_types.proofs.elements.is_reserved.Given as goal
+use Rattle.declaration_types.specs.Reserved.{is_reserved_below}
+use Rattle.declaration_types.proofs.elements.is_reserved.Given as goal
 
 -- whether it is `key` or the name of a column so far
 abbrev pub invariant-loop-position : goal.invariant-loop-position

@@ -9,7 +9,7 @@ ghost use Rattle.typed_tree.specs.Lookups.{set_named};
 ghost use Rattle.typed_tree.specs.Names.{is_known};
 ghost use Rattle.typed_tree.specs.Steps.{Leads, Walks, several};
 ghost use Rattle.typed_tree.specs.Declarations as spec;
-ghost use Rattle.block_types.specs.Parameters as own;
+ghost use Rattle.declaration_types.specs.Parameters as own;
 
 use crate::rules::{at_line, block_in, block_rule_up_to, faultless, taken, unless, whole};
 use sim_syntax::{Local, Name, Param, ParamKind, ResultDecl};

@@ -2,7 +2,7 @@ use Rattle.std.proofs.Common.{◌≡◌, map, drop}
 use Rattle.vocabulary.specs.Answers.{fold_result}
 use Rattle.typed_tree.specs.Declarations.{parameter_step}
 use Rattle.typed_tree.specs.Steps.{several, with_step}
-use Rattle.block_types.proofs.parameters.parameters.Given as goal
+use Rattle.declaration_types.proofs.parameters.parameters.Given as goal
 
 -- the parameters so far and those that are left give what all give
 abbrev pub invariant-loop-param : goal.invariant-loop-param

@@ -8,7 +8,7 @@ ghost use Rattle.typed_tree.specs.declared.function.ParameterType.TheVariants as
 ghost use Rattle.typed_tree.specs.Steps.{Leads};
 ghost use Rattle.typed_tree.specs.Cost.{body_cost};
 ghost use Rattle.typed_tree.specs.Declarations as spec;
-ghost use Rattle.block_types.specs.Functions as functions;
+ghost use Rattle.declaration_types.specs.Functions as functions;
 
 use crate::parameters::{parameters, results};
 use crate::rules::{at_line, faultless};

@@ -1,7 +1,7 @@
 use Rattle.std.proofs.Common.{◌≡◌, drop}
 use Rattle.vocabulary.specs.Answers.{fold_result}
 use Rattle.typed_tree.specs.Declarations.{with_field}
-use Rattle.block_types.proofs.elements.with_fields.Given as goal
+use Rattle.declaration_types.proofs.elements.with_fields.Given as goal
 
 -- the fields so far and those that are left give what all give
 abbrev pub invariant-loop-field : goal.invariant-loop-field

@@ -7,7 +7,7 @@ use Rattle.std.proofs.lemmas.List.Folds.{list_any-append}
 use Rattle.std.proofs.lemmas.List.FromFn.{map-range_with_len_more}
 use Rattle.typed_tree.specs.Names.{Name}
 use Rattle.typed_tree.specs.Declarations.{endpoint_column}
-use Rattle.block_types.specs.Reserved.{is_reserved_below}
+use Rattle.declaration_types.specs.Reserved.{is_reserved_below}
 
 -- the next number
 range_more : (n : ℕ) → range_with_len 0 (n + 1) ≡ range_with_len 0 n ++ n ∷ []

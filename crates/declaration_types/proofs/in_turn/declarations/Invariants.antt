@@ -1,7 +1,7 @@
 use Rattle.std.proofs.Common.{◌≡◌, drop}
 use Rattle.vocabulary.specs.Answers.{fold_result}
 use Rattle.typed_tree.specs.Declarations.{declaration}
-use Rattle.block_types.proofs.program.declarations.Given as goal
+use Rattle.declaration_types.proofs.in_turn.declarations.Given as goal
 
 -- the declarations so far and those that are left give what all give
 abbrev pub invariant-loop-one : goal.invariant-loop-one

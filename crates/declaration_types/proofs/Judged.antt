@@ -14,7 +14,7 @@ use Rattle.typed_tree.specs.Steps.{Leads, several}
 use Rattle.typed_tree.specs.Walking.{ended}
 use Rattle.typed_tree.specs.Functions.{statements}
 use Rattle.typed_tree.specs.Declarations.{func_decl, parameter_step, with_function, with_result}
-use Rattle.block_types.specs.Functions.{concluded, judged, known_before}
+use Rattle.declaration_types.specs.Functions.{concluded, judged, known_before}
 
 -- what is made of a value where there is no fault
 made_of : {A B : Type 0} (r : Result (Unit {0}) CheckFault) (made : A) (f : A → B) → ((r >>= λ _. Ok made) >>= λ x. Ok (f x)) ≡ (r >>= λ _. Ok (f made))
