@@ -5,7 +5,7 @@ use Rattle.ring_words.specs.declared.trap.TrapKind.{TrapKind}
 use Rattle.typed_tree.specs.declared.condition.TypedCmp.{TypedCmp}
 use Rattle.value_algebra.specs.Value.{word_of}
 use Rattle.algebra_meaning.specs.Expression.{Meant, Scope, comparison, held, meaning}
-use Rattle.element_words.specs.References.{first_meant}
+use Rattle.word_stacks.specs.References.{first_meant}
 
 one : {B : Type 0} (m : Meant) (f : ℕ → Result B TrapKind) (a : ℕ) → first_meant m ≡ Ok a → (m >>= λ v. f (word_of v)) ≡ f a
 one (Ok v) f a is = let same : word_of v ≡ a = cc in ap f same

@@ -15,10 +15,10 @@ use Rattle.algebra_meaning.specs.declared.stopped.Stopped.TheVariants.{By}
 use Rattle.algebra_meaning.specs.Expression.{Meant, Scope, added, factor_of, meaning, meanings, multiplied, part_of, row_of, term_of, with_factor, with_row, with_term, with_value}
 use Rattle.algebra_meaning.specs.Loops.{ExpressionLaws}
 use Rattle.loop_laws.specs.Loops.{ItemLaws}
-use Rattle.element_words.specs.declared.indices.Indices.{Indices}
-use Rattle.element_words.specs.declared.indices.Indices.TheVariants.{Whole}
-use Rattle.element_words.specs.References.{first_meant, indices_of, with_index}
-use Rattle.element_words.specs.Steps.{added_meant, indices_meant, multiplied_meant, words_meant}
+use Rattle.word_stacks.specs.declared.indices.Indices.{Indices}
+use Rattle.word_stacks.specs.declared.indices.Indices.TheVariants.{Whole}
+use Rattle.word_stacks.specs.References.{first_meant, indices_of, with_index}
+use Rattle.word_stacks.specs.Steps.{added_meant, indices_meant, multiplied_meant, words_meant}
 
 -- ---- a value that something is made of
 

@@ -16,9 +16,9 @@ use Rattle.value_algebra.specs.Value.{dot, number, word_of}
 use Rattle.algebra_meaning.specs.Expression.{Meant, Operand, Part, Scope, expression_part, factor_operand, first_word, form_meaning, form_of, meaning, meanings, or_trap, own_field, end_field, part, part_of, quotient, reference, referred, root, row_values, scalar_product, term_operand, value_at}
 use Rattle.typed_tree.specs.declared.expression.Referent.{Referent}
 use Rattle.typed_tree.specs.declared.expression.Referent.TheVariants as referent
-use Rattle.element_words.specs.declared.indices.Indices.{Indices}
-use Rattle.element_words.specs.References.{first_index, first_meant, indices_of, part_at, referred_at}
-use Rattle.element_words.specs.Steps.{divided, dot_with, indices_meant, rooted, word_or}
+use Rattle.word_stacks.specs.declared.indices.Indices.{Indices}
+use Rattle.word_stacks.specs.References.{first_index, first_meant, indices_of, part_at, referred_at}
+use Rattle.word_stacks.specs.Steps.{divided, dot_with, indices_meant, rooted, word_or}
 
 -- the type of a part is its node's
 pub type_is : (scope : Scope) (e : TypedExpr) → (part_of scope e).type ≡ e.node.value_type

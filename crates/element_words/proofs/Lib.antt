@@ -1,7 +1,4 @@
-pub mod InPlace
-pub mod Parts
-pub mod Pushed
-pub mod Made
+pub mod Compared
 pub mod Folds
 pub mod Forms
-pub mod Compared
+pub mod Parts

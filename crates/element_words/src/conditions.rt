@@ -6,10 +6,10 @@ ghost use Rattle.algebra_meaning.specs.Expression as meaning;
 ghost use Rattle.algebra_meaning.specs.Means.{Means};
 
 use crate::expression::word;
-use crate::words::Words;
 use algebra_meaning::{Stopped, condition_laws, held};
 use ring_words::TrapKind;
 use typed_tree::{TypedCmp, TypedCond, TypedConjunction};
+use word_stacks::Words;
 
 /// Whether a comparison holds, or the first trap.
 #[tactic(auto, using(crate::proofs::Compared::comparison_is, crate::proofs::Compared::comparison_first, crate::proofs::Compared::comparison_second))]

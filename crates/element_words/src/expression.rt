@@ -4,24 +4,21 @@ ghost use Rattle.std.specs.Prelude.{◌≡◌, ◌≤◌, OnOk, drop, length, ma
 ghost use Rattle.type_rules.specs.Types.{scale_of};
 ghost use Rattle.algebra_meaning.specs.Expression as meaning;
 ghost use Rattle.algebra_meaning.specs.Means.{Means};
-ghost use Rattle.element_words.specs.References.{first_meant};
-ghost use Rattle.element_words.specs.Stack as spec;
-ghost use Rattle.element_words.specs.Steps as steps;
+ghost use Rattle.word_stacks.specs.References.{first_meant};
+ghost use Rattle.word_stacks.specs.Stack as spec;
+ghost use Rattle.word_stacks.specs.Steps as steps;
 
-use crate::indices::Indices;
-use crate::operand::{Operand, Size, first_word};
-use crate::products::transpose;
-use crate::references::{referred, size_of};
-use crate::slices::Change;
-use crate::stack::{change, dot, push, settle};
-use crate::steps::{added, divided, found, last, multiplied, rooted};
-use crate::words::Words;
 use algebra_meaning::{Stopped, block_in, expression_laws};
 use loop_laws::item_laws;
 use ring_words::TrapKind;
 use type_rules::{NodeType, scale_of};
 use typed_tree::{TypedExpr, TypedFactor, TypedForm, TypedRow, TypedTerm};
 use vocabulary::L;
+use word_stacks::stack::{change, dot, push, settle};
+use word_stacks::steps::{added, divided, found, last, multiplied, rooted};
+use word_stacks::{
+    Change, Indices, Operand, Size, Words, first_word, referred, size_of, transpose,
+};
 
 /// What an expression means: a number, or words on the stack; or the first trap.
 #[cycle(expression)]
@@ -176,7 +173,7 @@ fn block(
 
 /// A sum so far, whose words stand from an index on, with another term.
 #[cycle(expression)]
-#[tactic(auto, unfolding(crate::specs::Steps::added_meant), using(crate::proofs::Parts::room, crate::proofs::Parts::below_kept, crate::proofs::Parts::range_before, crate::proofs::Parts::still_room))]
+#[tactic(auto, unfolding(word_stacks::specs::Steps::added_meant), using(crate::proofs::Parts::room, crate::proofs::Parts::below_kept, crate::proofs::Parts::range_before, crate::proofs::Parts::still_room))]
 fn next_total(
     total: Option<Operand>,
     term: &TypedTerm,
@@ -234,7 +231,7 @@ fn sum(
 
 /// A product so far with its type, whose words stand from an index on, with another factor.
 #[cycle(expression)]
-#[tactic(auto, unfolding(crate::specs::Steps::multiplied_meant), using(crate::proofs::Parts::room, crate::proofs::Parts::below_kept, crate::proofs::Parts::range_before, crate::proofs::Parts::still_room))]
+#[tactic(auto, unfolding(word_stacks::specs::Steps::multiplied_meant), using(crate::proofs::Parts::room, crate::proofs::Parts::below_kept, crate::proofs::Parts::range_before, crate::proofs::Parts::still_room))]
 fn next_product(
     so_far: Option<(NodeType, Operand)>,
     factor: &TypedFactor,
@@ -355,7 +352,7 @@ fn root(
 
 /// The scalar product of a value, which stands from an index on, and another one.
 #[cycle(expression)]
-#[tactic(auto, unfolding(crate::specs::Steps::dot_with), using(crate::proofs::Parts::room, crate::proofs::Parts::below_kept, crate::proofs::Parts::range_before))]
+#[tactic(auto, unfolding(word_stacks::specs::Steps::dot_with), using(crate::proofs::Parts::room, crate::proofs::Parts::below_kept, crate::proofs::Parts::range_before))]
 fn scalar_product(
     right: &TypedExpr,
     left: Operand,

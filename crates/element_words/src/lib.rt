@@ -4,18 +4,6 @@
 
 mod conditions;
 mod expression;
-mod indices;
-mod locals;
-mod operand;
-mod products;
-mod references;
-mod slices;
-mod stack;
-mod steps;
-mod words;
 
 pub use conditions::holds;
 pub use expression::evaluate;
-pub use locals::{Locals, Slot};
-pub use operand::Size;
-pub use words::Words;

@@ -10,7 +10,6 @@ ghost use Rattle.proc_engine.specs.Running.{Adds};
 use crate::word_statements::in_order;
 use algebra_meaning::{Contribution, Stopped, Trapped};
 use assembly_sums::Sums;
-use element_words::Locals;
 use global_algebra::Maps;
 use hypergraph::Sets;
 use loop_laws::number_laws;
@@ -20,6 +19,7 @@ use std::alloc::Global;
 use typed_tree::{TypedFunction, TypedProgram};
 use value_algebra::{Value, count};
 use vocabulary::L;
+use word_stacks::Locals;
 
 /// What a function contributes at an element is added to the sums; or its first trap.
 #[tactic(auto, unfolding(algebra_meaning::specs::Element::contributions))]

@@ -7,16 +7,17 @@ ghost use Rattle.algebra_meaning.specs.Assembled.{all_assembled};
 ghost use Rattle.algebra_meaning.specs.Element as spec;
 ghost use Rattle.algebra_meaning.specs.Expression as expressions;
 ghost use Rattle.algebra_meaning.specs.Means.{Leads, Means};
-ghost use Rattle.element_words.specs.Stack.{Appends};
+ghost use Rattle.word_stacks.specs.Stack.{Appends};
 ghost use Rattle.proc_engine.specs.Running.{Runs, point};
 
 use algebra_meaning::{Point, Stopped, end_of};
 use assembly_sums::Sums;
-use element_words::{Locals, Size, Words, evaluate, holds};
+use element_words::{evaluate, holds};
 use loop_laws::{item_laws, number_laws};
 use plain_maps::Call;
 use ring_words::TrapKind;
 use typed_tree::{FunctionStmt, PlaceIndex, TypedCond, TypedExpr, TypedResult, WrittenPlace};
+use word_stacks::{Locals, Size, Words};
 
 /// The words of an expression, alone on the stack, and its size; or its first trap.
 fn value_in(

@@ -10,8 +10,8 @@ use Rattle.value_algebra.specs.Value.{number}
 use Rattle.typed_tree.specs.declared.expression.TypedForm.{TypedForm}
 use Rattle.typed_tree.specs.declared.expression.TypedRow.{out-TypedRow}
 use Rattle.algebra_meaning.specs.Expression.{chain, entries, factor_of, form_of, meaning, meanings, part_of, quotient, reference, row_of, scalar_product, term_of, total}
-use Rattle.element_words.specs.Stack.{value_of}
-use Rattle.element_words.specs.Steps.{divided, product_of, total_of, words_meant}
+use Rattle.word_stacks.specs.Stack.{value_of}
+use Rattle.word_stacks.specs.Steps.{divided, product_of, total_of, words_meant}
 use Rattle.element_words.proofs.Folds.{entries_begun, factor_multiplied, factor_refused, first_of, stepped, term_added, term_refused, with_word, words_stopped, words_taken}
 use Rattle.element_words.proofs.Forms.{form_dot, form_quot, form_ref, dot_first, dot_from, dot_second, quotient_first, quotient_is, quotient_second, quotient_stopped, reference_args, reference_indices, reference_is}
 use Rattle.element_words.proofs.Parts.{kept_through, row_above}

@@ -1,8 +1,8 @@
 use Rattle.std.proofs.Common.{◌≡◌, ◌≤◌, drop, length, map, take, vec_len}
 use Rattle.vocabulary.specs.Answers.{fold_result}
 use Rattle.algebra_meaning.specs.Expression.{chain, entries, factor_of, meanings, row_of, term_of, total, with_factor, with_row, with_term}
-use Rattle.element_words.specs.References.{with_index}
-use Rattle.element_words.specs.Steps.{indices_meant, product_of, total_of, words_meant}
+use Rattle.word_stacks.specs.References.{with_index}
+use Rattle.word_stacks.specs.Steps.{indices_meant, product_of, total_of, words_meant}
 use Rattle.element_words.proofs.Folds.{first_of, stepped, with_word}
 use Rattle.element_words.proofs.expression.+expression.Given as goal
 

@@ -1,0 +1,4 @@
+pub mod InPlace
+pub mod Made
+pub mod Parts
+pub mod Pushed
