@@ -78,11 +78,15 @@ pub record IsChain (atoms : List IxAtom) (free : List Name) (ordering : Chain) :
 
 -- ---- the order of the text
 
+-- the least of a number and the factors of some links
+unfoldable pub least : ℕ → List Link → ℕ
+least m [] = m
+least m (l ∷ rest) = least (min m l.factor) rest
+
 -- the factor of some that stands first in the text
 abbrev pub first_of : List Link → ℕ
 first_of [] = 0
-first_of (l ∷ []) = l.factor
-first_of (l ∷ k ∷ rest) = min l.factor (first_of (k ∷ rest))
+first_of (l ∷ rest) = least l.factor rest
 
 abbrev pub last_of : Link → List Link → ℕ
 last_of l [] = l.factor

@@ -23,9 +23,12 @@ is_simple more = false
 abbrev pub is_paired : List Name → List IxAtom → Name → Bool
 is_paired free atoms i = is_among i free || (atoms_with i atoms == 2)
 
+abbrev pub is_paired_reference : List Name → List IxAtom → List Name → Bool
+is_paired_reference free atoms indices = is_simple indices && list_all (is_paired free atoms) indices
+
 -- no index stands twice in one reference, and each summed one in just two
 unfoldable pub are_paired : List Name → List IxAtom → Bool
-are_paired free atoms = list_all (λ a. is_simple (indices_of a) && list_all (is_paired free atoms) (indices_of a)) atoms
+are_paired free atoms = list_all (λ a. is_paired_reference free atoms (indices_of a)) atoms
 
 -- ---- following
 

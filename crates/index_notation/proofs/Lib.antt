@@ -1,0 +1,4 @@
+pub mod Links
+pub mod Scans
+pub mod Taking
+pub mod Weights
