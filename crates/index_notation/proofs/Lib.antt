@@ -1,3 +1,4 @@
+pub mod Groups
 pub mod Links
 pub mod Scans
 pub mod Taking

@@ -4,6 +4,8 @@
 mod atoms;
 mod fault;
 mod following;
+mod ordered;
+mod ordering;
 mod lists;
 
 mod pairs;
