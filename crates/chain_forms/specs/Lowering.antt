@@ -51,40 +51,39 @@ scalars atoms = map made (filter (λ a. not (is_factor (indices_of a))) atoms)
 abbrev pub factor : ℕ → Bool → Expr → ProductFactor
 factor line entrywise value = roll-ProductFactor (record { line = line; entrywise = entrywise; value = value })
 
+-- the factors of a product, of which those after the first are all multiplied entry by entry, or none of them
+abbrev pub factors_of : ℕ → Bool → List Expr → List ProductFactor
+factors_of line entrywise [] = []
+factors_of line entrywise (e ∷ others) = factor line false e ∷ map (factor line entrywise) others
+
 -- a product of one factor is that factor
-unfoldable pub product : ℕ → List Expr → Expr
-product line (e ∷ []) = e
-product line factors = expr.Product line (map (factor line false) factors)
-
-abbrev pub and_entrywise : ℕ → List Expr → List ProductFactor
-and_entrywise line [] = []
-and_entrywise line (e ∷ factors) = factor line false e ∷ map (factor line true) factors
-
--- the same of factors that are multiplied entry by entry
-unfoldable pub entrywise : ℕ → List Expr → Expr
-entrywise line (e ∷ []) = e
-entrywise line factors = expr.Product line (and_entrywise line factors)
+unfoldable pub product : ℕ → Bool → List Expr → Expr
+product line entrywise (e ∷ []) = e
+product line entrywise factors = expr.Product line (factors_of line entrywise factors)
 
 -- the product of each factor and the product of all after it
 unfoldable pub nested : ℕ → List Expr → Expr
-nested line [] = product line []
+nested line [] = product line false []
 nested line (e ∷ []) = e
-nested line (e ∷ f ∷ factors) = product line (e ∷ nested line (f ∷ factors) ∷ [])
+nested line (e ∷ f ∷ factors) = product line false (e ∷ nested line (f ∷ factors) ∷ [])
 
 -- the scalar product of the first factor and the nested product of the others
 unfoldable pub dot : ℕ → List Expr → Expr
-dot line [] = product line []
+dot line [] = product line false []
 dot line (e ∷ factors) = expr.Dot line e (nested line factors)
 
 -- ---- terms
+
+abbrev pub group_product : ℕ → List IxAtom → List Link → Expr
+group_product line atoms group = nested line (used atoms group)
 
 -- the one factor that a term's chain makes, where it has one
 unfoldable pub chained : ℕ → List IxAtom → Chain → List Expr
 chained line atoms chain.Empty = []
 chained line atoms (chain.Between first rest) = dot line (used atoms (first ∷ rest)) ∷ []
-chained line atoms (chain.Groups groups) = entrywise line (map (λ group. nested line (used atoms group)) groups) ∷ []
-chained line atoms (chain.Matrices links) = product line (used atoms links) ∷ []
+chained line atoms (chain.Groups groups) = product line true (map (group_product line atoms) groups) ∷ []
+chained line atoms (chain.Matrices links) = product line false (used atoms links) ∷ []
 
 -- the product of a term's scalars and of that factor
 unfoldable pub lowered_by : Chain → ℕ → List IxAtom → Expr
-lowered_by ordering line atoms = product line (scalars atoms ++ chained line atoms ordering)
+lowered_by ordering line atoms = product line false (scalars atoms ++ chained line atoms ordering)

@@ -2,5 +2,7 @@
 #![tactic(auto)]
 
 mod chain;
+mod laws;
 
 pub use chain::{Chain, Link};
+pub use laws::no_index_law;

@@ -1,6 +1,7 @@
 -- Tests that contracts inside this crate cite.
-use Rattle.std.specs.Prelude.{ℕ, ◌==◌, Bool, ◌&&◌, not, List, [], Option, Some, None}
+use Rattle.std.specs.Prelude.{ℕ, ◌==◌, Bool, ◌&&◌, not, true, false, List, [], ◌∷◌, Option, Some, None}
 use Rattle.std.specs.Option.{option_and_then}
+use Rattle.sim_syntax.specs.declared.expression.SumTerm.{SumTerm, out-SumTerm}
 use Rattle.sim_syntax.specs.declared.statement.IxAtom.{IxAtom}
 use Rattle.chain_forms.specs.declared.chain.Chain.{Chain}
 use Rattle.chain_forms.specs.declared.chain.Link.{Link}
@@ -23,3 +24,8 @@ after_first atoms first = after_vector atoms first (indices_at atoms first)
 -- with one: at least one group
 abbrev pub in_groups : Name → List IxAtom → Option Chain
 in_groups i atoms = option_and_then some_groups (groups_from i atoms 0 atoms [])
+
+-- whether terms are one without a minus
+abbrev pub is_plain : List SumTerm → Bool
+is_plain (term ∷ []) = not (out-SumTerm term).minus
+is_plain other = false

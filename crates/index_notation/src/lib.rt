@@ -9,11 +9,15 @@ mod ordering;
 mod lists;
 
 mod pairs;
+mod products;
+mod programs;
 
 
 mod statements;
 mod sums;
+mod terms;
 
 
 pub use fault::LowerFault;
+pub use programs::lower;
 
