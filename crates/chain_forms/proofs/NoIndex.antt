@@ -1,21 +1,18 @@
 -- No index expression is left in a lowered program.
-use Rattle.std.proofs.Common.{◌≡◌, ℕ, Bool, true, false, ◌||◌, List, [], ◌∷◌, map, Option, Result, Ok, Err, refl, sym, ap, ◌∙◌, subst}
+use Rattle.std.proofs.Common.{◌≡◌, ℕ, Bool, false, ◌||◌, List, [], ◌∷◌, map, Result, Ok, Err, refl, sym, ap, ◌∙◌, subst}
 use Rattle.std.specs.List.{list_any}
 use Rattle.vocabulary.specs.Answers.{◌>>=◌, all_ok}
-use Rattle.sim_syntax.specs.Indices.{is_index_expression, any_true, in_node, in_statement, in_statements, in_declaration, in_declarations, has_index_expression}
-use Rattle.sim_syntax.specs.declared.condition.Cond.{Cond}
+use Rattle.sim_syntax.specs.Indices.{is_index_expression, any_true, in_node, in_statement, in_statements, in_declaration, has_index_expression}
 use Rattle.sim_syntax.specs.declared.declaration.Decl.{Decl}
 use Rattle.sim_syntax.specs.declared.declaration.Decl.TheVariants as decl
-use Rattle.sim_syntax.specs.declared.expression.Expr.{Expr}
 use Rattle.sim_syntax.specs.declared.program.Program.{Program}
-use Rattle.sim_syntax.specs.declared.statement.Place.{Place}
 use Rattle.sim_syntax.specs.declared.statement.Right.{Right}
 use Rattle.sim_syntax.specs.declared.statement.Right.TheVariants as right
 use Rattle.sim_syntax.specs.declared.statement.Stmt as tree
 use Rattle.sim_syntax.specs.declared.statement.Stmt.{Stmt}
 use Rattle.sim_syntax.specs.declared.statement.Stmt.TheVariants as stmt
 use Rattle.sim_syntax.specs.declared.statement.Stmt.TheOpen.{Stmt-F}
-use Rattle.sim_syntax.specs.declared.statement.Stmt.TheFolds.{fold-Stmt, fold-roll-Stmt, ind-Stmt}
+use Rattle.sim_syntax.specs.declared.statement.Stmt.TheFolds.{fold-roll-Stmt, ind-Stmt}
 use Rattle.sim_syntax.specs.declared.statement.Target.{Target}
 use Rattle.chain_forms.specs.Laws.{LeavesNoIndex}
 use Rattle.chain_forms.specs.Lowered.{lowered_ix, lowered_right, lowered_node, lowered_statement, lowered_statements, lowered_declaration, lowered}
@@ -165,7 +162,7 @@ pub none_left : LeavesNoIndex
 unfolding lowered
 none_left program after is =
     let decls = bind_ok (all_ok (map lowered_declaration program.decls))
-        (λ decls. lowered_statements program.body >>= λ body. Ok (record { line = program.line; decls = decls; body = body })) after is in
+    (λ decls. lowered_statements program.body >>= λ body. Ok (record { line = program.line; decls = decls; body = body })) after is in
     let body = bind_ok (lowered_statements program.body) (λ body. Ok (record { line = program.line; decls = decls.0; body = body })) after decls.1.1 in
     let made : Program = record { line = program.line; decls = decls.0; body = body.0 } in
     subst (λ p. has_index_expression p ≡ false) (ok_is made after body.1.1)

@@ -5,7 +5,7 @@ use Rattle.sim_syntax.specs.declared.statement.IxAtom.{IxAtom}
 use Rattle.chain_forms.specs.declared.chain.Chain.{Chain}
 use Rattle.chain_forms.specs.declared.chain.Chain.TheVariants as chain
 use Rattle.chain_forms.specs.declared.chain.Link.{Link}
-use Rattle.chain_forms.specs.Atoms.{Name, indices_of, indices_at, is_factor, is_among, one_if, atoms_with}
+use Rattle.chain_forms.specs.Atoms.{Name, indices_at, is_factor, is_among, one_if, atoms_with}
 
 abbrev pub link : ℕ → Bool → Link
 link factor against = record { factor = factor; against = against }

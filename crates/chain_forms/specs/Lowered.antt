@@ -1,6 +1,6 @@
 -- The program that a program is lowered to: each index expression that stands in it is the sum of its lowered terms, and all
 -- else is as it was. Where some index expression isn't in chain form, the first one's line.
-use Rattle.std.specs.Prelude.{ℕ, Bool, true, false, if◌then◌else◌, List, [], ◌∷◌, map, Option, Some, None, Result, Ok, Err}
+use Rattle.std.specs.Prelude.{ℕ, if◌then◌else◌, List, [], ◌∷◌, map, Option, Some, None, Result, Ok, Err}
 use Rattle.std.specs.Option.{option_map}
 use Rattle.vocabulary.specs.Answers.{◌>>=◌, all_ok}
 use Rattle.sim_syntax.specs.declared.declaration.Decl.{Decl}

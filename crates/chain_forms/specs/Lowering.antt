@@ -1,6 +1,6 @@
 -- What a term is lowered to by an ordering of its factors. Numbers and references have their atom's line, and so has what is
 -- transposed; all else that is made of a term has one line, that of its first atom.
-use Rattle.std.specs.Prelude.{ℕ, Bool, true, false, not, List, [], ◌∷◌, ◌++◌, map, slice_get, Option, Some, None, if◌then◌else◌}
+use Rattle.std.specs.Prelude.{ℕ, Bool, true, false, not, List, [], ◌∷◌, ◌++◌, map, slice_get, Option, Some, None}
 use Rattle.std.specs.List.{filter, flat_map}
 use Rattle.sim_syntax.specs.declared.expression.Expr.{Expr}
 use Rattle.sim_syntax.specs.declared.expression.Expr.TheVariants as expr

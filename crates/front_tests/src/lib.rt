@@ -6,6 +6,8 @@
 #[cfg(test)]
 mod lexing;
 #[cfg(test)]
+mod lowering;
+#[cfg(test)]
 mod parsing;
 #[cfg(test)]
 mod places;

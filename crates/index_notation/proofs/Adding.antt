@@ -1,6 +1,6 @@
 -- Sums of one term.
 use Rattle.std.proofs.Common.{◌≡◌, ℕ, Bool, true, false, List, [], ◌∷◌, refl, sym, ap, ◌∙◌}
-use Rattle.std.specs.Prelude.{slice_get, not, if◌then◌else◌, Option, Some, None}
+use Rattle.std.specs.Prelude.{slice_get, not, if◌then◌else◌, Some, None}
 use Rattle.sim_syntax.specs.declared.expression.Expr.{Expr}
 use Rattle.sim_syntax.specs.declared.expression.Expr.TheVariants as expr
 use Rattle.sim_syntax.specs.declared.expression.SumTerm.{SumTerm, out-SumTerm}

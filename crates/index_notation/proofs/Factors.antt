@@ -1,12 +1,11 @@
 -- Products of factors that are taken from a list's end.
-use Rattle.std.proofs.Common.{◌≡◌, ℕ, suc, ◌+◌, Bool, true, false, List, [], ◌∷◌, ◌++◌, map, length, reverse, refl, sym, ap, ◌∙◌, arith, subst}
-use Rattle.std.specs.Prelude.{slice_get, Option, Some, None}
+use Rattle.std.proofs.Common.{◌≡◌, ℕ, Bool, false, List, [], ◌∷◌, ◌++◌, map, length, reverse, refl, sym, ap, ◌∙◌, subst}
+use Rattle.std.specs.Prelude.{slice_get, Some, None}
 use Rattle.std.specs.List.{remove}
 use Rattle.std.proofs.lemmas.List.{reverse-append, reverse-reverse, append_assoc, nil_from_length}
 use Rattle.sim_syntax.specs.declared.expression.Expr.{Expr}
 use Rattle.sim_syntax.specs.declared.expression.Expr.TheVariants as expr
 use Rattle.sim_syntax.specs.declared.expression.ProductFactor.{ProductFactor}
-use Rattle.chain_forms.specs.Lowering as spec
 use Rattle.chain_forms.specs.Lowering.{factor, factors_of, product, nested, dot}
 
 turned : (left new : List Expr) (x : Expr) → left ≡ new ++ x ∷ [] → reverse left ≡ x ∷ reverse new

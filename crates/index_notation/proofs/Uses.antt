@@ -1,5 +1,5 @@
 -- Factors that are appended one after the other.
-use Rattle.std.proofs.Common.{◌≡◌, ℕ, ◌+◌, ◌<◌, ◌≤◌, Bool, true, false, List, [], ◌∷◌, ◌++◌, map, length, drop, get_or, Option, Some, None, refl, sym, ap, ◌∙◌}
+use Rattle.std.proofs.Common.{◌≡◌, ℕ, ◌+◌, ◌<◌, ◌≤◌, Bool, true, false, List, [], ◌∷◌, ◌++◌, map, length, drop, get_or, refl, sym, ap, ◌∙◌}
 use Rattle.std.specs.Prelude.{slice_get, not, if◌then◌else◌, cond}
 use Rattle.std.specs.List.{filter, flat_map}
 use Rattle.std.proofs.lemmas.List.{append_assoc, drop_more, drop_all}
@@ -8,7 +8,7 @@ use Rattle.sim_syntax.specs.declared.expression.Expr.{Expr}
 use Rattle.sim_syntax.specs.declared.statement.IxAtom.{IxAtom}
 use Rattle.chain_forms.specs.declared.chain.Link.{Link}
 use Rattle.chain_forms.specs.Atoms.{is_factor, indices_of}
-use Rattle.chain_forms.specs.Lowering.{made, turned, used_at, used, scalars, group_product}
+use Rattle.chain_forms.specs.Lowering.{made, used_at, used, scalars, group_product}
 use Rattle.index_notation.proofs.Scans.{from_item}
 
 end_nil : {A : Type 0} (list : List A) → list ++ [] ≡ list

@@ -1,5 +1,5 @@
 -- Tests that contracts inside this crate cite.
-use Rattle.std.specs.Prelude.{ℕ, ◌==◌, Bool, ◌&&◌, not, true, false, List, [], ◌∷◌, Option, Some, None}
+use Rattle.std.specs.Prelude.{ℕ, ◌==◌, Bool, ◌&&◌, not, false, List, [], ◌∷◌, Option, Some, None}
 use Rattle.std.specs.Option.{option_and_then}
 use Rattle.sim_syntax.specs.declared.expression.SumTerm.{SumTerm, out-SumTerm}
 use Rattle.sim_syntax.specs.declared.statement.IxAtom.{IxAtom}

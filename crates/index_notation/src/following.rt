@@ -36,9 +36,18 @@ fn link_at(index: &Name, factor: usize, indices: &[Name]) -> Option<Link>
     ensures { result ≡ spec.link_at index.now factor indices.now }
 {
     match indices {
-        [i] if is_same(index, i) => Some(Link { factor, against: false }),
-        [i, _] if is_same(index, i) => Some(Link { factor, against: false }),
-        [_, j] if is_same(index, j) => Some(Link { factor, against: true }),
+        [i] if is_same(index, i) => Some(Link {
+            factor,
+            against: false,
+        }),
+        [i, _] if is_same(index, i) => Some(Link {
+            factor,
+            against: false,
+        }),
+        [_, j] if is_same(index, j) => Some(Link {
+            factor,
+            against: true,
+        }),
         _ => None,
     }
 }

@@ -4,20 +4,15 @@
 mod atoms;
 mod fault;
 mod following;
+mod lists;
 mod ordered;
 mod ordering;
-mod lists;
-
 mod pairs;
 mod products;
 mod programs;
-
-
 mod statements;
 mod sums;
 mod terms;
 
-
 pub use fault::LowerFault;
 pub use programs::lower;
-

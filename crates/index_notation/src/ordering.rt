@@ -139,7 +139,12 @@ fn groups(
 }
 
 /// With one free index: at least one group.
-fn in_groups(alloc: Global, free: &[Name], index: &Name, atoms: &[IxAtom]) -> Result<Option<Chain>, NoMemory>
+fn in_groups(
+    alloc: Global,
+    free: &[Name],
+    index: &Name,
+    atoms: &[IxAtom],
+) -> Result<Option<Chain>, NoMemory>
     requires { free.now ≡ index.now ∷ [] }
     ensures { IfOk result (λ chain. chain ≡ tests.in_groups index.now atoms.now) }
 {
@@ -150,7 +155,13 @@ fn in_groups(alloc: Global, free: &[Name], index: &Name, atoms: &[IxAtom]) -> Re
 }
 
 /// With two free indices that differ: from the first atom with the one on to the other.
-fn between_free(alloc: Global, free: &[Name], i: &Name, j: &Name, atoms: &[IxAtom]) -> Result<Option<Chain>, NoMemory>
+fn between_free(
+    alloc: Global,
+    free: &[Name],
+    i: &Name,
+    j: &Name,
+    atoms: &[IxAtom],
+) -> Result<Option<Chain>, NoMemory>
     requires { free.now ≡ i.now ∷ j.now ∷ [] }
     ensures { IfOk result (λ chain. chain ≡ spec.between_free i.now j.now atoms.now) }
 {

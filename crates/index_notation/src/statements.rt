@@ -36,26 +36,68 @@ fn lowered_statement(statement: Stmt, alloc: Global) -> Result<Stmt, LowerFault>
             let right = lowered_right(alloc, right)?;
             Ok(Stmt::Var { line, names, right })
         }
-        Stmt::Assign { line, targets, right } => {
+        Stmt::Assign {
+            line,
+            targets,
+            right,
+        } => {
             let right = lowered_right(alloc, right)?;
-            Ok(Stmt::Assign { line, targets, right })
+            Ok(Stmt::Assign {
+                line,
+                targets,
+                right,
+            })
         }
-        Stmt::ConstFor { line, name, from, to, body } => {
+        Stmt::ConstFor {
+            line,
+            name,
+            from,
+            to,
+            body,
+        } => {
             let body = lowered_statements(body, alloc)?;
-            Ok(Stmt::ConstFor { line, name, from, to, body })
+            Ok(Stmt::ConstFor {
+                line,
+                name,
+                from,
+                to,
+                body,
+            })
         }
-        Stmt::For { line, name, from, to, body } => {
+        Stmt::For {
+            line,
+            name,
+            from,
+            to,
+            body,
+        } => {
             let body = lowered_statements(body, alloc)?;
-            Ok(Stmt::For { line, name, from, to, body })
+            Ok(Stmt::For {
+                line,
+                name,
+                from,
+                to,
+                body,
+            })
         }
         Stmt::While { line, cond, body } => {
             let body = lowered_statements(body, alloc)?;
             Ok(Stmt::While { line, cond, body })
         }
-        Stmt::If { line, cond, body, otherwise } => {
+        Stmt::If {
+            line,
+            cond,
+            body,
+            otherwise,
+        } => {
             let body = lowered_statements(body, alloc)?;
             let otherwise = lowered_statements(otherwise, alloc)?;
-            Ok(Stmt::If { line, cond, body, otherwise })
+            Ok(Stmt::If {
+                line,
+                cond,
+                body,
+                otherwise,
+            })
         }
         other => Ok(other),
     }

@@ -1,4 +1,4 @@
-use Rattle.std.proofs.Common.{◌≡◌, ◌∷◌, [], ◌++◌, ◌<◌, map, reverse, sym, length, ap, ◌∙◌, arith}
+use Rattle.std.proofs.Common.{◌<◌, map, reverse, sym, length, ap, ◌∙◌, arith}
 use Rattle.std.proofs.lemmas.List.{length_push}
 use Rattle.vocabulary.specs.Answers.{all_ok}
 use Rattle.chain_forms.specs.Lowered.{lowered_statement}
@@ -11,7 +11,7 @@ pub lowered_statements-lowered_statement-requires :
     goal.lowered_statements-lowered_statement-requires
 lowered_statements-lowered_statement-requires t c =
     let less : weight c.in-Some.statement < weights c.args.statements =
-        taken_weight c.loop.left c.pop.new.self c.in-Some.statement (weights c.args.statements) c.in-Some.ensures c.loop.invariant.weight
+    taken_weight c.loop.left c.pop.new.self c.in-Some.statement (weights c.args.statements) c.in-Some.ensures c.loop.invariant.weight
     in (omega arith, tt)
 
 pub lowered_statements-loop-preserved : goal.lowered_statements-loop-preserved
