@@ -1,0 +1,4 @@
+pub mod Leading
+pub mod Names
+pub mod Pairs
+pub mod Times

@@ -1,0 +1,4 @@
+use Rattle.chain_laws.proofs.ordering_law.Goals as goal
+
+pub returns : goal.returns
+returns c = ?

@@ -1,0 +1,10 @@
+//! The laws of chain forms: the ordering that the definition gives is the one there is. Each call does nothing: the laws are
+//! its contract.
+#![tactic(auto)]
+
+ghost use Rattle.chain_laws.specs.Laws.{IsOrdering};
+
+/// The laws of the ordering of a term's factors.
+pub fn ordering_law()
+    ensures holds { IsOrdering }
+{}
