@@ -1,4 +1,5 @@
+use Rattle.chain_laws.proofs.Holds.{holds}
 use Rattle.chain_laws.proofs.ordering_law.Goals as goal
 
 pub returns : goal.returns
-returns c = ?
+returns c = record { holds = holds }
