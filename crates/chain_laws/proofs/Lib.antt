@@ -1,3 +1,7 @@
+pub mod Complete
+pub mod Counts
+pub mod Ends
+pub mod Grouped
 pub mod Holds
 pub mod Leading
 pub mod Names
