@@ -5,7 +5,9 @@ pub mod Grouped
 pub mod Holds
 pub mod Leading
 pub mod Names
+pub mod Only
 pub mod Pairs
+pub mod Refused
 pub mod Sorting
 pub mod Sound
 pub mod Times

@@ -2,9 +2,11 @@
 //! its contract.
 #![tactic(auto)]
 
-ghost use Rattle.chain_laws.specs.Laws.{IsOrdering};
+ghost use Rattle.chain_laws.specs.Laws.{IsOnly, IsOrdering, IsRefused};
 
 /// The laws of the ordering of a term's factors.
 pub fn ordering_law()
     ensures holds { IsOrdering }
+    ensures only { IsOnly }
+    ensures refused { IsRefused }
 {}

@@ -1,5 +1,9 @@
 use Rattle.chain_laws.proofs.Holds.{holds}
+use Rattle.chain_laws.proofs.Only.{only}
 use Rattle.chain_laws.proofs.ordering_law.Goals as goal
 
-pub returns : goal.returns
-returns c = record { holds = holds }
+pub returns-clause-holds : goal.returns-clause-holds
+returns-clause-holds c = holds
+
+pub returns-clause-only : goal.returns-clause-only
+returns-clause-only c = only
