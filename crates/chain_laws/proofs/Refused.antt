@@ -85,3 +85,73 @@ turn atoms end i links behind (Leads.further l rest j k beside summed others) ba
         (last_more (turned l) (link 0 false) behind atoms j back ∙ is) in
     (t.0, t.1, t.2, t.3, t.4, t.5, t.6 ∙ last_more (link 0 false) l rest atoms k others,
     λ q. let was = t.7 q in let more = times_more q l rest in let other = times_more q (turned l) behind in omega arith)
+
+-- ---- each ordering, put into the order of the text
+
+abbrev Canonical : List IxAtom → List Name → Type 0
+Canonical atoms free = (c : Chain) × (IsChain atoms free c × InTextOrder c)
+
+with_order : (atoms : List IxAtom) (free : List Name) (c d : Chain) → IsChain atoms free c → Ordered atoms free d → Times atoms (links_of d) → IsChain atoms free d
+with_order atoms free c d is ordered times = record { simple = is.simple; twice = is.twice; all = times; ordered = ordered }
+
+turned_round : (atoms : List IxAtom) (p : ℕ) (j : Name) (rest : List Link) → IsChain atoms [] (chain.Between (link p false) rest) → indices_at atoms p ≡ j ∷ []
+    → Leads atoms [] [] j rest → last_of (link p false) rest < p → Canonical atoms []
+turned_round atoms p j rest is are lead before =
+    let t = turn atoms p j rest (link p false ∷ []) lead (Leads.last (link p false) j (Beside.vector p j are)) refl in
+    let c : Chain = chain.Between (link t.0 false) t.2 in
+    let ordered : Ordered atoms [] c = Ordered.between_vectors (link t.0 false) t.2 t.1 (Beside.vector t.0 t.1 t.3) t.4 in
+    let times : Times atoms (links_of c) = λ q.
+        let was = t.7 q in let more = times_more q (link p false) rest in let one = times_more q (link p false) [] in let none = times_none q in
+        let all : times_in q (link p false ∷ rest) ≡ one_if (is_factor (indices_at atoms q)) = is.all q in
+        let same : times_in q (link t.0 false ∷ t.2) ≡ times_in q (link p false ∷ rest) = omega arith in
+        same ∙ all in
+    let first : t.0 ≡ last_of (link p false) rest = t.6 ∙ last_more (link 0 false) (link p false) rest atoms j lead in
+    let end : last_of (link t.0 false) t.2 ≡ p = t.5 in
+    let less : t.0 < last_of (link t.0 false) t.2 = omega (arith, first, end, before) in
+    (c, (with_order atoms [] (chain.Between (link p false) rest) c is ordered times, less))
+
+not_twice : (atoms : List IxAtom) (p : ℕ) (j : Name) (rest : List Link) → IsChain atoms [] (chain.Between (link p false) rest) → Leads atoms [] [] j rest
+    → p ≡ last_of (link p false) rest → ⊥
+not_twice atoms p j rest is lead same =
+    let some = not_empty atoms [] [] j rest lead in
+    let end : 1 ≤ times_in (last_of (link p false) rest) rest =
+        subst (λ r. 1 ≤ times_in (last_of (link p false) r) r) (sym some.2) (last_stands some.0 some.1) in
+    let here_too : 1 ≤ times_in p rest = subst (λ q. 1 ≤ times_in q rest) (sym same) end in
+    let more = times_more p (link p false) rest in
+    let alone = here p (link p false) [] refl in
+    let one = times_more p (link p false) [] in
+    let none = times_none p in
+    let o = once atoms (link p false ∷ rest) is.all p in
+    omega arith
+
+grouped : (atoms : List IxAtom) (i : Name) (group : List Link) (others : List (List Link)) → IsChain atoms (i ∷ []) (chain.Groups (group ∷ others))
+    → AllLead atoms (i ∷ []) i (group ∷ others) → Canonical atoms (i ∷ [])
+unfolding sorted
+grouped atoms i group others is lead =
+    let some = some_put group (sorted others) in
+    let times : Times atoms (all_links (sorted (group ∷ others))) = λ p. times_sorted p (group ∷ others) ∙ is.all p in
+    let leads = leads_sorted atoms (i ∷ []) i (group ∷ others) lead in
+    let order = ascending atoms (i ∷ []) i (sorted (group ∷ others)) (is_sorted (group ∷ others)) leads (once atoms (all_links (sorted (group ∷ others))) times) in
+    (chain.Groups (some.0 ∷ some.1),
+    (with_order atoms (i ∷ []) (chain.Groups (group ∷ others)) (chain.Groups (some.0 ∷ some.1)) is
+    (Ordered.in_groups i some.0 some.1 (subst (AllLead atoms (i ∷ []) i) some.2 leads))
+    (subst (λ gs. Times atoms (all_links gs)) some.2 times),
+    subst (λ gs. InTextOrder (chain.Groups gs)) some.2 order))
+
+canonical : (atoms : List IxAtom) (free : List Name) (c : Chain) → IsChain atoms free c → Ordered atoms free c → Canonical atoms free
+canonical atoms free c is Ordered.no_factors = (chain.Empty, (is, tt))
+canonical atoms free c is (Ordered.between_vectors first rest i (Beside.vector p j are) lead) = elim (cases_lt p (last_of (link p false) rest)) [
+  | inl less ↦ (chain.Between (link p false) rest, (is, less))
+  | inr past ↦ elim (cases_eq p (last_of (link p false) rest)) [
+    | inl same ↦ absurd (not_twice atoms p j rest is lead same)
+    | inr other ↦ turned_round atoms p j rest is are lead (omega (arith, past, other))
+  ]
+]
+canonical atoms free c is (Ordered.in_groups i group others lead) = grouped atoms i group others is lead
+canonical atoms free c is (Ordered.between_indices i j links differ lead) = (chain.Matrices links, (is, tt))
+
+pub refused : IsRefused
+refused free atoms c none is =
+    let order = canonical atoms free c is is.ordered in
+    let there : None ≡ Some order.0 = sym none ∙ only free atoms order.0 order.1.0 order.1.1 in
+    cc there
