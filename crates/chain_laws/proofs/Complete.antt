@@ -1,16 +1,16 @@
 -- What leads from the first factor to the end is found by following shared indices.
-use Rattle.std.proofs.Common.{◌≡◌, ℕ, zero, suc, ◌+◌, ◌<◌, ◌≤◌, Bool, true, false, ◌||◌, List, [], ◌∷◌, length, Option, Some, None, refl, sym, ap, ◌∙◌, subst, arith, inl, inr}
+use Rattle.std.proofs.Common.{◌≡◌, ℕ, zero, suc, ◌+◌, ◌≤◌, Bool, true, false, List, [], ◌∷◌, length, Option, Some, None, refl, sym, ap, ◌∙◌, subst, arith, inl, inr}
 use Rattle.std.specs.Prelude.{◌==◌, ◌⊎◌, not, cond, if◌then◌else◌}
 use Rattle.std.specs.List.{filter}
 use Rattle.std.specs.Option.{option_map, option_and_then}
 use Rattle.std.specs.Str.{bytes_eq}
-use Rattle.std.proofs.lemmas.Bool.{eq-eqb, ne_eqb, eqb-true, cases_eq}
+use Rattle.std.proofs.lemmas.Bool.{cases_eq}
 use Rattle.sim_syntax.specs.declared.statement.IxAtom.{IxAtom}
 use Rattle.chain_forms.specs.declared.chain.Link.{Link}
 use Rattle.chain_forms.specs.Atoms.{Name, indices_at, is_among, one_if, atoms_with}
 use Rattle.chain_forms.specs.ChainForm.{link, Beside, Leads, IsSimple, IsSummed, times_in}
 use Rattle.chain_forms.specs.Following.{followed, onward, link_at, leaving, other_with, is_end}
-use Rattle.chain_laws.proofs.Names.{true_or_false, name_is, same_name, other_name, not_true, first_among, later_among}
+use Rattle.chain_laws.proofs.Names.{same_name, other_name, first_among, later_among}
 use Rattle.chain_laws.proofs.Leading.{as_list}
 use Rattle.chain_laws.proofs.Counts.{Has, one_with, the_other}
 use Rattle.chain_laws.proofs.Times.{times_more, times_none, here}
@@ -89,15 +89,17 @@ link_found : (atoms : List IxAtom) (l : Link) (i : Name) (out : List Name) → B
     → (link_at i l.factor (indices_at atoms l.factor) ≡ Some l) × (leaving l (indices_at atoms l.factor) ≡ first out)
 link_found atoms l i out (Beside.vector p j are) simple =
     (ap (link_at j p) are ∙ ap (λ b. if b then Some (link p false) else None) (same_name j j refl), ap (leaving (link p false)) are)
-link_found atoms l i out (Beside.straight p j k are) simple =
-    (ap (link_at j p) are ∙ ap (λ b. if b then Some (link p false) else if bytes_eq j k then Some (link p true) else None) (same_name j j refl),
-    ap (leaving (link p false)) are)
+link_found atoms l i out (Beside.straight p j k are) simple = (
+  ap (link_at j p) are ∙ ap (λ b. if b then Some (link p false) else if bytes_eq j k then Some (link p true) else None) (same_name j j refl),
+  ap (leaving (link p false)) are,
+)
 link_found atoms l i out (Beside.against p j k are) simple =
-    let differ = matrix_differ k j (subst IsSimple are simple) in
-    (ap (link_at j p) are
-    ∙ ap (λ b. if b then Some (link p false) else if bytes_eq j j then Some (link p true) else None) (other_name j k (λ same. differ (sym same)))
-    ∙ ap (λ b. if b then Some (link p true) else None) (same_name j j refl),
-    ap (leaving (link p true)) are)
+    let differ = matrix_differ k j (subst IsSimple are simple) in (
+      ap (link_at j p) are
+          ∙ ap (λ b. if b then Some (link p false) else if bytes_eq j j then Some (link p true) else None) (other_name j k (λ same. differ (sym same)))
+          ∙ ap (λ b. if b then Some (link p true) else None) (same_name j j refl),
+      ap (leaving (link p true)) are,
+    )
 
 entering : (atoms : List IxAtom) (free end : List Name) (i : Name) (links : List Link) → Leads atoms free end i links → Has i atoms (head_factor links)
 entering atoms free end i links (Leads.last l j beside) = has_entry atoms l j end beside
@@ -158,13 +160,13 @@ complete atoms free end simple twice end_free i links (Leads.further l rest j k 
     let exit = has_exit atoms l j k beside in
     let next = entering atoms free (as_list end) k rest others in
     let differ : l.factor ≡ head_factor rest → ⊥ = λ same.
-        let more = times_more l.factor l rest in
-        let alone = here l.factor l [] refl in
-        let one = times_more l.factor l [] in
-        let nothing = times_none l.factor in
-        let o = once l.factor in
-        let head : 1 ≤ times_in l.factor rest = subst (λ q. 1 ≤ times_in q rest) (sym same) (head_stands atoms free (as_list end) k rest others) in
-        absurd (omega arith) in
+    let more = times_more l.factor l rest in
+    let alone = here l.factor l [] refl in
+    let one = times_more l.factor l [] in
+    let nothing = times_none l.factor in
+    let o = once l.factor in
+    let head : 1 ≤ times_in l.factor rest = subst (λ q. 1 ≤ times_in q rest) (sym same) (head_stands atoms free (as_list end) k rest others) in
+    absurd (omega arith) in
     let other = the_other k atoms l.factor (head_factor rest) (two_of atoms k l.factor (twice k summed) exit) differ exit next in
     ap (option_and_then (λ m. onward free end atoms (followed free end atoms most) m (leaving m (indices_at atoms l.factor)))) found.0
     ∙ ap (onward free end atoms (followed free end atoms most) l) found.1

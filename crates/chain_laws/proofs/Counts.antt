@@ -1,14 +1,13 @@
 -- How many atoms have an index, and which is the other one.
-use Rattle.std.proofs.Common.{◌≡◌, ℕ, zero, suc, ◌+◌, ◌<◌, ◌≤◌, Bool, true, false, ◌||◌, ◌&&◌, List, [], ◌∷◌, Option, Some, None, refl, sym, ap, ◌∙◌, subst, arith, inl, inr}
+use Rattle.std.proofs.Common.{◌≡◌, ℕ, zero, suc, ◌+◌, ◌≤◌, Bool, true, false, ◌||◌, ◌&&◌, List, [], ◌∷◌, Option, Some, None, refl, sym, ap, ◌∙◌, subst, arith, inl, inr}
 use Rattle.std.specs.Prelude.{◌==◌, ◌⊎◌, not, if◌then◌else◌}
 use Rattle.std.specs.List.{list_all}
-use Rattle.std.specs.Str.{bytes_eq}
-use Rattle.std.proofs.lemmas.Bool.{eq-eqb, ne_eqb, eqb-true, cases_eq}
+use Rattle.std.proofs.lemmas.Bool.{eq-eqb, eqb-true, cases_eq}
 use Rattle.sim_syntax.specs.declared.statement.IxAtom.{IxAtom}
 use Rattle.chain_forms.specs.Atoms.{Name, indices_of, indices_at, is_among, one_if, atoms_with}
 use Rattle.chain_forms.specs.ChainForm.{IsSimple, IsSummed}
 use Rattle.chain_forms.specs.Following.{is_simple, is_paired, is_paired_reference, are_paired, other_with}
-use Rattle.chain_laws.proofs.Names.{true_or_false, both_true, other_name, first_among, later_among, some_is}
+use Rattle.chain_laws.proofs.Names.{true_or_false, other_name, first_among, later_among, some_is}
 use Rattle.chain_laws.proofs.Pairs.{with_more}
 
 abbrev pub Has : Name → List IxAtom → ℕ → Type 0
@@ -69,18 +68,20 @@ unfolding other_with
 other_is i but k [] q found = cc found
 other_is i but k (a ∷ atoms) q found = elim (true_or_false (is_among i (indices_of a) && not (k == but))) [
   | inl is ↦
-    let here = some_is k q (sym (ap (λ b. if b then Some k else other_with i but (k + 1) atoms) is) ∙ found) in
-    let both = passes (is_among i (indices_of a)) (k == but) is in
-    (0, (nothing_more here, both.0, λ same. not_both (k == but) (eq-eqb k but (here ∙ same)) both.1))
+      let here = some_is k q (sym (ap (λ b. if b then Some k else other_with i but (k + 1) atoms) is) ∙ found) in
+      let both = passes (is_among i (indices_of a)) (k == but) is in
+      (0, (nothing_more here, both.0, λ same. not_both (k == but) (eq-eqb k but (here ∙ same)) both.1))
   | inr is ↦
-    let rest = other_is i but (k + 1) atoms q (sym (ap (λ b. if b then Some k else other_with i but (k + 1) atoms) is) ∙ found) in
-    (suc rest.0, (one_later rest.0 rest.1.0, rest.1.1, rest.1.2))
+      let rest = other_is i but (k + 1) atoms q (sym (ap (λ b. if b then Some k else other_with i but (k + 1) atoms) is) ∙ found) in
+      (suc rest.0, (one_later rest.0 rest.1.0, rest.1.1, rest.1.2))
 ]
   where
     nothing_more : k ≡ q → q ≡ k + 0
     nothing_more same = omega arith
+
     one_later : (r : ℕ) → q ≡ k + 1 + r → q ≡ k + suc r
     one_later r is = omega arith
+
     not_both : (b : Bool) → b ≡ true → b ≡ false → ⊥
     not_both true is not_is = cc not_is
     not_both false is not_is = cc is

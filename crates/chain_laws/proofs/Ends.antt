@@ -1,22 +1,21 @@
 -- With no free index, and with two: the ordering there is, is the one that is found.
 use Rattle.std.proofs.Common.{◌≡◌, ℕ, zero, suc, ◌+◌, ◌<◌, ◌≤◌, Bool, true, false, ◌||◌, ◌&&◌, List, [], ◌∷◌, length, Option, Some, None, refl, sym, ap, ◌∙◌, subst, arith, inl, inr}
-use Rattle.std.specs.Prelude.{◌==◌, ◌⊎◌, if◌then◌else◌}
+use Rattle.std.specs.Prelude.{◌⊎◌, if◌then◌else◌}
 use Rattle.std.specs.List.{list_all, range_with_len}
 use Rattle.std.specs.Option.{option_map, option_and_then}
 use Rattle.std.specs.Str.{bytes_eq}
 use Rattle.std.proofs.lemmas.Bool.{eq-eqb, cases_eq, cases_lt}
 use Rattle.sim_syntax.specs.declared.statement.IxAtom.{IxAtom}
-use Rattle.chain_forms.specs.declared.chain.Chain.{Chain}
 use Rattle.chain_forms.specs.declared.chain.Chain.TheVariants as chain
 use Rattle.chain_forms.specs.declared.chain.Link.{Link}
 use Rattle.chain_forms.specs.Atoms.{Name, indices_of, indices_at, is_factor, is_among, one_if, atoms_with}
-use Rattle.chain_forms.specs.ChainForm.{link, Beside, Leads, Ordered, IsSimple, IsSummed, links_of, times_in, last_of, IsChain}
+use Rattle.chain_forms.specs.ChainForm.{link, Beside, Leads, IsSimple, IsSummed, times_in, last_of}
 use Rattle.chain_forms.specs.Following.{other_with, followed, is_vector, first_vector, after_vector, from_vector, between_free, is_ordered, are_ordered}
-use Rattle.chain_laws.proofs.Names.{true_or_false, name_is, same_name, other_name, first_among, later_among, some_is}
+use Rattle.chain_laws.proofs.Names.{true_or_false, name_is, other_name, first_among, later_among, some_is}
 use Rattle.chain_laws.proofs.Counts.{Has, the_other, no_other, other_is}
-use Rattle.chain_laws.proofs.Complete.{fits, head_factor, has_entry, has_exit, two_of, complete}
-use Rattle.chain_laws.proofs.Sound.{Vector, NoneBefore, first_is, past_end, last_factor, not_empty, at_most_once}
-use Rattle.chain_laws.proofs.Times.{times_more, times_none, here, elsewhere, later}
+use Rattle.chain_laws.proofs.Complete.{fits, head_factor, has_entry, two_of, complete}
+use Rattle.chain_laws.proofs.Sound.{Vector, first_is, past_end, last_factor, not_empty, at_most_once}
+use Rattle.chain_laws.proofs.Times.{times_more, times_none, here, elsewhere}
 
 pub not_both : (b : Bool) → b ≡ true → b ≡ false → ⊥
 not_both true is not_is = cc not_is
@@ -203,8 +202,8 @@ vectors_last atoms free i links r (Leads.last l j beside) vector some = elim (he
 vectors_last atoms free i links r (Leads.further l rest j k beside summed others) vector some = elim (here_or_later r l rest some) [
   | inl same ↦ absurd (two_indices atoms l j k beside (subst (Vector atoms) (sym same) vector))
   | inr more ↦
-    let parts = not_empty atoms free [] k rest others in
-    subst (λ q. r ≡ last_of l q) (sym parts.2) (subst (λ q. r ≡ last_factor q) parts.2 (vectors_last atoms free k rest r others vector more))
+      let parts = not_empty atoms free [] k rest others in
+      subst (λ q. r ≡ last_of l q) (sym parts.2) (subst (λ q. r ≡ last_factor q) parts.2 (vectors_last atoms free k rest r others vector more))
 ]
 
 first_found : (atoms : List IxAtom) (p : ℕ) (i : Name) (rest : List Link) → Vector atoms p → Leads atoms [] [] i rest → Times atoms (link p false ∷ rest)
@@ -218,6 +217,7 @@ first_found atoms p i rest vector lead times before = by_found (first_vector 0 a
         let some : 1 ≤ times_in r rest = omega (arith, one) in
         let parts = not_empty atoms [] [] i rest lead in
         subst (λ q. r ≡ last_of (link p false) q) (sym parts.2) (subst (λ q. r ≡ last_factor q) parts.2 (vectors_last atoms [] i rest r lead is some))
+
     by_found : (o : Option ℕ) → first_vector 0 atoms ≡ o → o ≡ Some p
     by_found None none = absurd (none_first atoms 0 none p vector)
     by_found (Some u) found =
@@ -226,9 +226,9 @@ first_found atoms p i rest vector lead times before = by_found (first_vector 0 a
         elim (cases_eq u p) [
           | inl is ↦ ap Some is
           | inr other ↦
-            let end = at_last u (subst (Vector atoms) (sym same) first.1.1) other in
-            let past : p < first.0 = omega (arith, end, before, same) in
-            absurd (not_both (is_vector (indices_at atoms p)) vector (first.1.2 p past))
+              let end = at_last u (subst (Vector atoms) (sym same) first.1.1) other in
+              let past : p < first.0 = omega (arith, end, before, same) in
+              absurd (not_both (is_vector (indices_at atoms p)) vector (first.1.2 p past))
         ]
 
 pub between_found : (atoms : List IxAtom) (p : ℕ) (i : Name) (rest : List Link) → ((q : ℕ) → IsSimple (indices_at atoms q)) → Twice atoms []
@@ -237,16 +237,16 @@ pub between_found : (atoms : List IxAtom) (p : ℕ) (i : Name) (rest : List Link
 between_found atoms p i rest simple twice are lead times before =
     let has : Has i atoms p = ap (is_among i) are ∙ first_among i [] in
     let differ : p ≡ head_factor rest → ⊥ = λ same.
-        let more = times_more p (link p false) rest in
-        let alone = here p (link p false) [] refl in
-        let one = times_more p (link p false) [] in
-        let nothing = times_none p in
-        let o = once atoms (link p false ∷ rest) times p in
-        let head : 1 ≤ times_in p rest = subst (λ q. 1 ≤ times_in q rest) (sym same) (head_in atoms [] [] i rest lead) in
-        absurd (omega arith) in
+    let more = times_more p (link p false) rest in
+    let alone = here p (link p false) [] refl in
+    let one = times_more p (link p false) [] in
+    let nothing = times_none p in
+    let o = once atoms (link p false ∷ rest) times p in
+    let head : 1 ≤ times_in p rest = subst (λ q. 1 ≤ times_in q rest) (sym same) (head_in atoms [] [] i rest lead) in
+    absurd (omega arith) in
     let once_rest : (q : ℕ) → times_in q rest ≤ 1 = λ q. let more = times_more q (link p false) rest in let o = once atoms (link p false ∷ rest) times q in omega arith in
     let past_rest : (q : ℕ) → length atoms ≤ q → times_in q rest ≡ 0 =
-        λ q past. let more = times_more q (link p false) rest in let n = never_past atoms (link p false ∷ rest) times q past in omega arith in
+    λ q past. let more = times_more q (link p false) rest in let n = never_past atoms (link p false ∷ rest) times q past in omega arith in
     ap (from_vector atoms) (first_found atoms p i rest (ap is_vector are) lead times before)
     ∙ ap (after_vector atoms p) are
     ∙ ap (λ o. option_map (λ rest. chain.Between (link p false) rest) (option_and_then (λ next. followed [] None atoms (length atoms) next i) o))

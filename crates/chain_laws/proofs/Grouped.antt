@@ -1,21 +1,21 @@
 -- With one free index: the groups there are, are those that are found.
-use Rattle.std.proofs.Common.{◌≡◌, ℕ, zero, suc, ◌+◌, ◌<◌, ◌≤◌, Bool, true, false, List, [], ◌∷◌, map, length, Option, Some, None, refl, sym, ap, ◌∙◌, subst, arith, inl, inr}
-use Rattle.std.specs.Prelude.{◌⊎◌, if◌then◌else◌, cond, nat_lt}
+use Rattle.std.proofs.Common.{◌≡◌, ℕ, suc, ◌+◌, ◌<◌, ◌≤◌, Bool, true, false, List, [], ◌∷◌, map, length, Some, None, refl, sym, ap, ◌∙◌, subst, arith, inl, inr}
+use Rattle.std.specs.Prelude.{if◌then◌else◌, cond, nat_lt}
 use Rattle.std.specs.List.{filter}
 use Rattle.std.specs.Option.{option_and_then}
 use Rattle.std.proofs.lemmas.Bool.{cases_eq, cases_lt}
 use Rattle.std.proofs.lemmas.Bool.Decides.{Decides-ltb}
 use Rattle.sim_syntax.specs.declared.statement.IxAtom.{IxAtom}
 use Rattle.chain_forms.specs.declared.chain.Link.{Link}
-use Rattle.chain_forms.specs.Atoms.{Name, indices_of, indices_at, is_among, atoms_with}
+use Rattle.chain_forms.specs.Atoms.{Name, indices_of, indices_at, is_among}
 use Rattle.chain_forms.specs.ChainForm.{Leads, AllLead, IsSimple, times_in, first_of, Ascending}
 use Rattle.chain_forms.specs.Following.{followed, with_group, groups_from}
-use Rattle.chain_laws.proofs.Names.{true_or_false, not_true, first_among, some_is}
+use Rattle.chain_laws.proofs.Names.{true_or_false, not_true, first_among}
 use Rattle.chain_laws.proofs.Counts.{Has}
 use Rattle.chain_laws.proofs.Complete.{fits, head_factor, complete}
 use Rattle.chain_laws.proofs.Ends.{Times, Twice, not_both, once, never_past, stands, within, only_head, enters, head_in}
 use Rattle.chain_laws.proofs.Times.{times_none}
-use Rattle.chain_laws.proofs.Sorting.{put_before, put_after, put_alone, is_less, not_less, all_links, times_of}
+use Rattle.chain_laws.proofs.Sorting.{put_before, put_after, put_alone, is_less, all_links, times_of}
 
 -- groups that begin before a position
 abbrev begun : ℕ → List (List Link) → List (List Link)
@@ -117,32 +117,41 @@ module _ (all : List IxAtom) (i : Name) where
       let at_most = apart k in
       elim (cases_eq (times_in k (all_links gs)) 0) [
         | inl none ↦
-          let same = head_of g k lead has (omega (arith, none)) in
-          (g, ((lead, sym same, λ p. let j = times_of p g gs in omega arith),
-          (λ m after. first_after m g gs after),
-          ap (with_group g) (begun_same k g gs (omega (arith, same)))
-          ∙ put_first g (begun k gs) (after_begun (first_of g) k gs (ascending_after g gs is))
-          ∙ ap (λ r. g ∷ r) (sym (same_begun k gs others none))
-          ∙ sym (begun_more (k + 1) g gs (omega (arith, same)))))
+            let same = head_of g k lead has (omega (arith, none)) in (
+              g,
+              (
+                (lead, sym same, λ p. let j = times_of p g gs in omega arith),
+                (λ m after. first_after m g gs after),
+                ap (with_group g) (begun_same k g gs (omega (arith, same)))
+                    ∙ put_first g (begun k gs) (after_begun (first_of g) k gs (ascending_after g gs is))
+                    ∙ ap (λ r. g ∷ r) (sym (same_begun k gs others none))
+                    ∙ sym (begun_more (k + 1) g gs (omega (arith, same))),
+              ),
+            )
         | inr more ↦
-          let rest = put k gs others (ascending_rest (first_of g) (map first_of gs) is) (λ p. let j = times_of p g gs in let o = apart p in omega arith) has (omega (arith, more)) in
-          let differ = head_elsewhere k g lead (omega (arith, more)) in
-          let above = rest.1.1 (first_of g) (ascending_after g gs is) in
-          (rest.0, ((rest.1.0.0, rest.1.0.1, λ p. let j = times_of p g gs in let r = rest.1.0.2 p in omega arith),
-          (λ m after. rest.1.1 m (others_after m g gs after)),
-          elim (cases_lt (head_factor g) k) [
-            | inl below ↦
-              ap (with_group rest.0) (begun_more k g gs below)
-              ∙ put_after rest.0 g (begun k gs) (not_less_is (first_of rest.0) (first_of g) (omega (arith, above)))
-              ∙ ap (λ r. g ∷ r) rest.1.2 ∙ sym (begun_more (k + 1) g gs (omega (arith, below)))
-            | inr past ↦
-              ap (with_group rest.0) (begun_same k g gs past) ∙ rest.1.2
-              ∙ sym (begun_same (k + 1) g gs (let other : head_factor g ≡ k → ⊥ = differ in omega (arith, past, other)))
-          ]))
+            let rest = put k gs others (ascending_rest (first_of g) (map first_of gs) is) (λ p. let j = times_of p g gs in let o = apart p in omega arith) has (omega (arith, more)) in
+            let differ = head_elsewhere k g lead (omega (arith, more)) in
+            let above = rest.1.1 (first_of g) (ascending_after g gs is) in (
+              rest.0,
+              (
+                (rest.1.0.0, rest.1.0.1, λ p. let j = times_of p g gs in let r = rest.1.0.2 p in omega arith),
+                (λ m after. rest.1.1 m (others_after m g gs after)),
+                elim (cases_lt (head_factor g) k) [
+                  | inl below ↦
+                      ap (with_group rest.0) (begun_more k g gs below)
+                      ∙ put_after rest.0 g (begun k gs) (not_less_is (first_of rest.0) (first_of g) (omega (arith, above)))
+                      ∙ ap (λ r. g ∷ r) rest.1.2 ∙ sym (begun_more (k + 1) g gs (omega (arith, below)))
+                  | inr past ↦
+                      ap (with_group rest.0) (begun_same k g gs past) ∙ rest.1.2
+                      ∙ sym (begun_same (k + 1) g gs (let other : head_factor g ≡ k → ⊥ = differ in omega (arith, past, other)))
+                ],
+              ),
+            )
       ]
     where
       first_after : (m : ℕ) (g : List Link) (gs : List (List Link)) → After m (g ∷ gs) → m < first_of g
       first_after m g gs (After.one_more h hs below rest) = below
+
       others_after : (m : ℕ) (g : List Link) (gs : List (List Link)) → After m (g ∷ gs) → After m gs
       others_after m g gs (After.one_more h hs below rest) = rest
 
@@ -172,24 +181,24 @@ module _ (all : List IxAtom) (i : Name) where
   from_position gs simple twice times lead is k (a ∷ atoms) same whole =
       let here : indices_of a ≡ indices_at all k = same 0 ∙ ap (indices_at all) (let e : k + 0 ≡ k = omega arith in e) in
       let rest : (r : ℕ) → indices_at atoms r ≡ indices_at all (k + 1 + r) =
-          λ r. same (suc r) ∙ ap (indices_at all) (let e : k + suc r ≡ k + 1 + r = omega arith in e) in
+      λ r. same (suc r) ∙ ap (indices_at all) (let e : k + suc r ≡ k + 1 + r = omega arith in e) in
       let left : k + 1 + length atoms ≡ length all = omega arith in
       let goes_on = from_position gs simple twice times lead is (k + 1) atoms rest left in
       elim (true_or_false (is_among i (indices_of a))) [
         | inl among ↦
-          let has : Has i all k = sym (ap (is_among i) here) ∙ among in
-          let group = put k gs lead is (once all (all_links gs) times) has (stands all (all_links gs) i k times has) in
-          ap (λ b. if b
-          then option_and_then (λ group. groups_from i all (k + 1) atoms (with_group group (begun k gs))) (followed (i ∷ []) None all (length all) k i)
-          else groups_from i all (k + 1) atoms (begun k gs)) among
-          ∙ ap (option_and_then (λ group. groups_from i all (k + 1) atoms (with_group group (begun k gs))))
-          (ap (λ p. followed (i ∷ []) None all (length all) p i) (sym group.1.0.1) ∙ found_at gs simple twice times group.0 group.1.0.0 group.1.0.2)
-          ∙ ap (groups_from i all (k + 1) atoms) group.1.2 ∙ goes_on
+            let has : Has i all k = sym (ap (is_among i) here) ∙ among in
+            let group = put k gs lead is (once all (all_links gs) times) has (stands all (all_links gs) i k times has) in
+            ap (λ b. if b
+            then option_and_then (λ group. groups_from i all (k + 1) atoms (with_group group (begun k gs))) (followed (i ∷ []) None all (length all) k i)
+            else groups_from i all (k + 1) atoms (begun k gs)) among
+            ∙ ap (option_and_then (λ group. groups_from i all (k + 1) atoms (with_group group (begun k gs))))
+            (ap (λ p. followed (i ∷ []) None all (length all) p i) (sym group.1.0.1) ∙ found_at gs simple twice times group.0 group.1.0.0 group.1.0.2)
+            ∙ ap (groups_from i all (k + 1) atoms) group.1.2 ∙ goes_on
         | inr other ↦
-          ap (λ b. if b
-          then option_and_then (λ group. groups_from i all (k + 1) atoms (with_group group (begun k gs))) (followed (i ∷ []) None all (length all) k i)
-          else groups_from i all (k + 1) atoms (begun k gs)) other
-          ∙ ap (groups_from i all (k + 1) atoms) (sym (begun_unless k gs lead (λ has. not_both (is_among i (indices_of a)) (ap (is_among i) here ∙ has) other))) ∙ goes_on
+            ap (λ b. if b
+            then option_and_then (λ group. groups_from i all (k + 1) atoms (with_group group (begun k gs))) (followed (i ∷ []) None all (length all) k i)
+            else groups_from i all (k + 1) atoms (begun k gs)) other
+            ∙ ap (groups_from i all (k + 1) atoms) (sym (begun_unless k gs lead (λ has. not_both (is_among i (indices_of a)) (ap (is_among i) here ∙ has) other))) ∙ goes_on
       ]
 
   pub groups_found : (gs : List (List Link)) → ((p : ℕ) → IsSimple (indices_at all p)) → Twice all (i ∷ []) → Times all (all_links gs) → All gs

@@ -1,15 +1,15 @@
 -- By the number of free indices: what is found is an ordering, and it is in the order of the text.
-use Rattle.std.proofs.Common.{◌≡◌, ℕ, zero, suc, ◌+◌, ◌<◌, ◌≤◌, Bool, true, false, List, [], ◌∷◌, map, length, Option, Some, None, refl, sym, ap, ◌∙◌, subst, arith, inl, inr}
-use Rattle.std.specs.Prelude.{if◌then◌else◌, ◌⊎◌}
-use Rattle.std.specs.Option.{option_map, option_and_then}
+use Rattle.std.proofs.Common.{◌≡◌, ℕ, ◌+◌, ◌<◌, ◌≤◌, Bool, true, false, List, [], ◌∷◌, length, Option, Some, None, refl, sym, ap, ◌∙◌, subst, arith, inl, inr}
+use Rattle.std.specs.Prelude.{if◌then◌else◌}
+use Rattle.std.specs.Option.{option_and_then}
 use Rattle.std.specs.Str.{bytes_eq}
 use Rattle.std.proofs.lemmas.Bool.{cases_lt, cases_eq}
 use Rattle.sim_syntax.specs.declared.statement.IxAtom.{IxAtom}
 use Rattle.chain_forms.specs.declared.chain.Chain.{Chain}
 use Rattle.chain_forms.specs.declared.chain.Chain.TheVariants as chain
 use Rattle.chain_forms.specs.declared.chain.Link.{Link}
-use Rattle.chain_forms.specs.Atoms.{Name, indices_of, indices_at, is_factor, is_among, one_if}
-use Rattle.chain_forms.specs.ChainForm.{link, Beside, Leads, AllLead, Ordered, links_of, times_in, first_of, last_of, IsChain, InTextOrder}
+use Rattle.chain_forms.specs.Atoms.{Name, indices_of, indices_at, is_factor, is_among}
+use Rattle.chain_forms.specs.ChainForm.{link, Beside, Leads, AllLead, Ordered, links_of, times_in, last_of, IsChain, InTextOrder}
 use Rattle.chain_forms.specs.Following.{are_paired, other_with, followed, is_vector, first_vector, after_vector, from_vector, with_group, groups_from, some_groups, between_free, by_free, are_ordered, if_all, ordering}
 use Rattle.chain_laws.specs.Laws.{IsOrdering}
 use Rattle.chain_laws.proofs.Names.{same_name, true_or_false, and_then_some, map_some, if_some, if_not_some, some_is}
@@ -59,11 +59,13 @@ before_last atoms u i rest found lead once =
     differ : (b : Bool) → b ≡ true → b ≡ false → ⊥
     differ true is not_is = cc not_is
     differ false is not_is = cc is
+
     later : (v r : ℕ) → u ≡ 0 + r → (v < r → ⊥) → (v ≡ u → ⊥) → u < v
     later v r is not_before differ = elim (cases_lt v r) [
       | inl below ↦ absurd (not_before below)
-      | inr past ↦ elim (cases_eq v u) [ | inl same ↦ absurd (differ same) | inr other ↦ omega (arith, other) ]
+      | inr past ↦ elim (cases_eq v u) [ inl same ↦ absurd (differ same) | inr other ↦ omega (arith, other) ]
     ]
+
     times_nothing : (p : ℕ) → times_in p [] ≡ 0
     times_nothing p = times_none p
 
@@ -88,15 +90,15 @@ groups_hold i all k [] groups found is lead sorted =
     (subst (AllLead all (i ∷ []) i) (some_is groups found is) lead, subst Sorted (some_is groups found is) sorted)
 groups_hold i all k (a ∷ atoms) groups found is lead sorted = elim (true_or_false (is_among i (indices_of a))) [
   | inl among ↦
-    let group = and_then_some (followed (i ∷ []) None all (length all) k i) (λ group. groups_from i all (k + 1) atoms (with_group group groups)) found
-        (sym (ap (λ b. if b then option_and_then (λ group. groups_from i all (k + 1) atoms (with_group group groups)) (followed (i ∷ []) None all (length all) k i)
-        else groups_from i all (k + 1) atoms groups) among) ∙ is) in
-    groups_hold i all (k + 1) atoms (with_group group.0 groups) found group.1.1
-    (leads_put all (i ∷ []) i group.0 groups (leads all (i ∷ []) None (length all) k i group.0 group.1.0) lead) (sorted_put group.0 groups sorted)
+      let group = and_then_some (followed (i ∷ []) None all (length all) k i) (λ group. groups_from i all (k + 1) atoms (with_group group groups)) found
+      (sym (ap (λ b. if b then option_and_then (λ group. groups_from i all (k + 1) atoms (with_group group groups)) (followed (i ∷ []) None all (length all) k i)
+      else groups_from i all (k + 1) atoms groups) among) ∙ is) in
+      groups_hold i all (k + 1) atoms (with_group group.0 groups) found group.1.1
+      (leads_put all (i ∷ []) i group.0 groups (leads all (i ∷ []) None (length all) k i group.0 group.1.0) lead) (sorted_put group.0 groups sorted)
   | inr other ↦
-    groups_hold i all (k + 1) atoms groups found
-    (sym (ap (λ b. if b then option_and_then (λ group. groups_from i all (k + 1) atoms (with_group group groups)) (followed (i ∷ []) None all (length all) k i)
-    else groups_from i all (k + 1) atoms groups) other) ∙ is) lead sorted
+      groups_hold i all (k + 1) atoms groups found
+      (sym (ap (λ b. if b then option_and_then (λ group. groups_from i all (k + 1) atoms (with_group group groups)) (followed (i ∷ []) None all (length all) k i)
+      else groups_from i all (k + 1) atoms groups) other) ∙ is) lead sorted
 ]
 
 some_hold : (atoms : List IxAtom) (i : Name) (groups : List (List Link)) (ordering : Chain) → AllLead atoms (i ∷ []) i groups → Sorted groups
@@ -116,9 +118,11 @@ two_hold atoms i j ordering found =
     let differ = if_not_some (bytes_eq i j) _ ordering found in
     let links = map_some (option_and_then (λ first. followed (i ∷ j ∷ []) (Some j) atoms (length atoms) first i) (other_with i (length atoms) 0 atoms)) chain.Matrices ordering differ.1 in
     let first = and_then_some (other_with i (length atoms) 0 atoms) (λ first. followed (i ∷ j ∷ []) (Some j) atoms (length atoms) first i) links.0 links.1.0 in
-    subst (Holds atoms (i ∷ j ∷ [])) links.1.1
-    (Ordered.between_indices i j links.0 (λ same. not_both (bytes_eq i j) (same_name i j same) differ.0)
-    (leads atoms (i ∷ j ∷ []) (Some j) (length atoms) first.0 i links.0 first.1.1), tt)
+    subst (Holds atoms (i ∷ j ∷ [])) links.1.1 (
+      Ordered.between_indices i j links.0 (λ same. not_both (bytes_eq i j) (same_name i j same) differ.0)
+          (leads atoms (i ∷ j ∷ []) (Some j) (length atoms) first.0 i links.0 first.1.1),
+      tt,
+    )
   where
     not_both : (b : Bool) → b ≡ true → b ≡ false → ⊥
     not_both true is not_is = cc not_is
@@ -143,10 +147,12 @@ holds free atoms c found =
     let once = if_some (are_ordered atoms (links_of only.0)) (Some only.0) c only.1.1 in
     let is = some_is only.0 c once.1 in
     let hold = by_free_holds atoms free only.0 only.1.0 once.0 in
-    subst (λ o. IsChain atoms free o × InTextOrder o) is
-    (record {
-      simple = are_simple free atoms paired.0;
-      twice = are_twice free atoms paired.0;
-      all = all_once atoms free only.0 hold.0 once.0;
-      ordered = hold.0;
-    }, hold.1)
+    subst (λ o. IsChain atoms free o × InTextOrder o) is (
+      record {
+        simple = are_simple free atoms paired.0;
+        twice = are_twice free atoms paired.0;
+        all = all_once atoms free only.0 hold.0 once.0;
+        ordered = hold.0;
+      },
+      hold.1,
+    )

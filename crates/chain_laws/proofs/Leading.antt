@@ -1,12 +1,12 @@
 -- What is found by following shared indices leads from the first factor to the end.
-use Rattle.std.proofs.Common.{◌≡◌, ℕ, zero, suc, ◌+◌, Bool, true, false, List, [], ◌∷◌, Option, Some, None, refl, sym, ap, ◌∙◌, subst}
+use Rattle.std.proofs.Common.{◌≡◌, ℕ, zero, suc, Bool, true, false, List, [], ◌∷◌, Option, Some, None, refl, sym, ap, ◌∙◌, subst}
 use Rattle.std.specs.Prelude.{if◌then◌else◌}
 use Rattle.std.specs.Option.{option_map, option_and_then}
 use Rattle.std.specs.Str.{bytes_eq}
 use Rattle.sim_syntax.specs.declared.statement.IxAtom.{IxAtom}
 use Rattle.chain_forms.specs.declared.chain.Link.{Link}
 use Rattle.chain_forms.specs.Atoms.{Name, indices_at, is_among}
-use Rattle.chain_forms.specs.ChainForm.{link, Beside, Leads, IsSummed}
+use Rattle.chain_forms.specs.ChainForm.{link, Beside, Leads}
 use Rattle.chain_forms.specs.Following.{followed, onward, link_at, leaving, other_with, is_end}
 use Rattle.chain_laws.proofs.Names.{name_is, and_then_some, map_some, if_some, if_not_some, some_is}
 

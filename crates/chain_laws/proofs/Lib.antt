@@ -4,6 +4,7 @@ pub mod Ends
 pub mod Grouped
 pub mod Holds
 pub mod Leading
+pub mod Lowering
 pub mod Names
 pub mod Only
 pub mod Pairs

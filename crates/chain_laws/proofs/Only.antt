@@ -1,13 +1,12 @@
 -- Each ordering by which the term is in chain form, and which is in the order of the text, is the one that the definition gives.
-use Rattle.std.proofs.Common.{◌≡◌, ℕ, ◌<◌, ◌≤◌, Bool, true, false, List, [], ◌∷◌, map, length, Option, Some, None, refl, sym, ap, ◌∙◌}
-use Rattle.std.specs.Prelude.{◌⊎◌, if◌then◌else◌}
+use Rattle.std.proofs.Common.{◌≡◌, ℕ, List, ◌∷◌, Some, None, ap, ◌∙◌}
+use Rattle.std.specs.Prelude.{if◌then◌else◌}
 use Rattle.std.specs.Option.{option_and_then}
 use Rattle.sim_syntax.specs.declared.statement.IxAtom.{IxAtom}
 use Rattle.chain_forms.specs.declared.chain.Chain.{Chain}
-use Rattle.chain_forms.specs.declared.chain.Chain.TheVariants as chain
 use Rattle.chain_forms.specs.Atoms.{Name, indices_at}
-use Rattle.chain_forms.specs.ChainForm.{Beside, Ordered, IsSimple, links_of, IsChain, InTextOrder}
-use Rattle.chain_forms.specs.Following.{are_paired, by_free, some_groups, are_ordered, if_all, ordering}
+use Rattle.chain_forms.specs.ChainForm.{Beside, Ordered, IsSimple, links_of, InTextOrder}
+use Rattle.chain_forms.specs.Following.{by_free, some_groups, if_all, ordering}
 use Rattle.chain_laws.specs.Laws.{IsOnly}
 use Rattle.chain_laws.proofs.Counts.{paired}
 use Rattle.chain_laws.proofs.Ends.{Times, Twice, passes, two_found, no_vector, between_found}

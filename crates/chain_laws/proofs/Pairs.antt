@@ -1,15 +1,15 @@
 -- What the tests of a term's indices mean.
-use Rattle.std.proofs.Common.{◌≡◌, ℕ, zero, suc, ◌+◌, ◌<◌, ◌≤◌, Bool, true, false, ◌||◌, ◌&&◌, List, [], ◌∷◌, refl, sym, ap, ◌∙◌, subst, arith, inl, inr}
-use Rattle.std.specs.Prelude.{◌==◌, ◌⊎◌, not, slice_get, sum_by}
-use Rattle.std.specs.List.{list_all, list_any}
+use Rattle.std.proofs.Common.{◌≡◌, ℕ, zero, suc, ◌+◌, Bool, true, false, ◌||◌, List, [], ◌∷◌, refl, sym, ap, ◌∙◌, subst, arith, inl, inr}
+use Rattle.std.specs.Prelude.{◌==◌, ◌⊎◌, not}
+use Rattle.std.specs.List.{list_all}
 use Rattle.std.specs.Str.{bytes_eq}
-use Rattle.std.proofs.lemmas.Bool.{eq-eqb, eqb-true}
+use Rattle.std.proofs.lemmas.Bool.{eqb-true}
 use Rattle.std.proofs.lemmas.List.Sums.{sum_by-cons}
 use Rattle.sim_syntax.specs.declared.statement.IxAtom.{IxAtom}
 use Rattle.chain_forms.specs.Atoms.{Name, indices_of, indices_at, is_among, one_if, atoms_with}
 use Rattle.chain_forms.specs.ChainForm.{IsSimple, IsSummed}
 use Rattle.chain_forms.specs.Following.{is_simple, is_paired, is_paired_reference, are_paired}
-use Rattle.chain_laws.proofs.Names.{true_or_false, both_true, name_is, same_name, other_name}
+use Rattle.chain_laws.proofs.Names.{true_or_false, both_true, name_is, same_name}
 
 -- ---- references
 

@@ -1,6 +1,6 @@
 -- Where the definition gives no ordering there is none: one in another order could be put into that of the text.
-use Rattle.std.proofs.Common.{◌≡◌, ℕ, ◌+◌, ◌<◌, ◌≤◌, Bool, true, false, List, [], ◌∷◌, map, length, Option, Some, None, refl, sym, ap, ◌∙◌, subst, arith, inl, inr}
-use Rattle.std.specs.Prelude.{◌⊎◌, ◌==◌, not, nat_lt}
+use Rattle.std.proofs.Common.{◌≡◌, ℕ, ◌+◌, ◌<◌, ◌≤◌, false, List, [], ◌∷◌, Some, None, refl, sym, ap, ◌∙◌, subst, arith, inl, inr}
+use Rattle.std.specs.Prelude.{not, nat_lt}
 use Rattle.std.proofs.lemmas.Bool.{cases_eq, cases_lt}
 use Rattle.sim_syntax.specs.declared.statement.IxAtom.{IxAtom}
 use Rattle.chain_forms.specs.declared.chain.Chain.{Chain}
@@ -8,7 +8,7 @@ use Rattle.chain_forms.specs.declared.chain.Chain.TheVariants as chain
 use Rattle.chain_forms.specs.declared.chain.Link.{Link}
 use Rattle.chain_forms.specs.Atoms.{Name, indices_at, is_factor, one_if}
 use Rattle.chain_forms.specs.ChainForm.{link, Beside, Leads, AllLead, Ordered, links_of, times_in, first_of, last_of, IsChain, InTextOrder}
-use Rattle.chain_forms.specs.Following.{with_group, ordering}
+use Rattle.chain_forms.specs.Following.{with_group}
 use Rattle.chain_laws.specs.Laws.{IsRefused}
 use Rattle.chain_laws.proofs.Names.{true_or_false}
 use Rattle.chain_laws.proofs.Ends.{once, Times}
@@ -28,8 +28,8 @@ times_put p group [] = ap (λ l. times_in p (all_links l)) (put_alone group) ∙
 times_put p group (g ∷ gs) = elim (true_or_false (nat_lt (first_of group) (first_of g))) [
   | inl less ↦ ap (λ l. times_in p (all_links l)) (put_before group g gs less) ∙ times_of p group (g ∷ gs)
   | inr after ↦
-    let rest = times_put p group gs in let one = times_of p g (with_group group gs) in let two = times_of p g gs in
-    ap (λ l. times_in p (all_links l)) (put_after group g gs after) ∙ omega arith
+      let rest = times_put p group gs in let one = times_of p g (with_group group gs) in let two = times_of p g gs in
+      ap (λ l. times_in p (all_links l)) (put_after group g gs after) ∙ omega arith
 ]
 
 times_sorted : (p : ℕ) (gs : List (List Link)) → times_in p (all_links (sorted gs)) ≡ times_in p (all_links gs)
@@ -77,14 +77,28 @@ last_more l k rest atoms i lead =
 
 turn : (atoms : List IxAtom) (end : ℕ) (i : Name) (links behind : List Link) → Leads atoms [] [] i links → Leads atoms [] [] i behind
     → last_of (link 0 false) behind ≡ end → Turned atoms end links behind
-turn atoms end i links behind (Leads.last l j (Beside.vector p k are)) back is =
-    (p, k, behind, are, back, last_more (link p false) (link 0 false) behind atoms k back ∙ is, refl,
-    λ q. let more = times_more q (link p false) behind in let one = times_more q (link p false) [] in let none = times_none q in omega arith)
+turn atoms end i links behind (Leads.last l j (Beside.vector p k are)) back is = (
+  p,
+  k,
+  behind,
+  are,
+  back,
+  last_more (link p false) (link 0 false) behind atoms k back ∙ is,
+  refl,
+  λ q. let more = times_more q (link p false) behind in let one = times_more q (link p false) [] in let none = times_none q in omega arith,
+)
 turn atoms end i links behind (Leads.further l rest j k beside summed others) back is =
     let t = turn atoms end k rest (turned l ∷ behind) others (Leads.further (turned l) behind k j (turn_beside atoms l j k beside) refl back)
-        (last_more (turned l) (link 0 false) behind atoms j back ∙ is) in
-    (t.0, t.1, t.2, t.3, t.4, t.5, t.6 ∙ last_more (link 0 false) l rest atoms k others,
-    λ q. let was = t.7 q in let more = times_more q l rest in let other = times_more q (turned l) behind in omega arith)
+    (last_more (turned l) (link 0 false) behind atoms j back ∙ is) in (
+      t.0,
+      t.1,
+      t.2,
+      t.3,
+      t.4,
+      t.5,
+      t.6 ∙ last_more (link 0 false) l rest atoms k others,
+      λ q. let was = t.7 q in let more = times_more q l rest in let other = times_more q (turned l) behind in omega arith,
+    )
 
 -- ---- each ordering, put into the order of the text
 
@@ -101,10 +115,10 @@ turned_round atoms p j rest is are lead before =
     let c : Chain = chain.Between (link t.0 false) t.2 in
     let ordered : Ordered atoms [] c = Ordered.between_vectors (link t.0 false) t.2 t.1 (Beside.vector t.0 t.1 t.3) t.4 in
     let times : Times atoms (links_of c) = λ q.
-        let was = t.7 q in let more = times_more q (link p false) rest in let one = times_more q (link p false) [] in let none = times_none q in
-        let all : times_in q (link p false ∷ rest) ≡ one_if (is_factor (indices_at atoms q)) = is.all q in
-        let same : times_in q (link t.0 false ∷ t.2) ≡ times_in q (link p false ∷ rest) = omega arith in
-        same ∙ all in
+    let was = t.7 q in let more = times_more q (link p false) rest in let one = times_more q (link p false) [] in let none = times_none q in
+    let all : times_in q (link p false ∷ rest) ≡ one_if (is_factor (indices_at atoms q)) = is.all q in
+    let same : times_in q (link t.0 false ∷ t.2) ≡ times_in q (link p false ∷ rest) = omega arith in
+    same ∙ all in
     let first : t.0 ≡ last_of (link p false) rest = t.6 ∙ last_more (link 0 false) (link p false) rest atoms j lead in
     let end : last_of (link t.0 false) t.2 ≡ p = t.5 in
     let less : t.0 < last_of (link t.0 false) t.2 = omega (arith, first, end, before) in
@@ -115,7 +129,7 @@ not_twice : (atoms : List IxAtom) (p : ℕ) (j : Name) (rest : List Link) → Is
 not_twice atoms p j rest is lead same =
     let some = not_empty atoms [] [] j rest lead in
     let end : 1 ≤ times_in (last_of (link p false) rest) rest =
-        subst (λ r. 1 ≤ times_in (last_of (link p false) r) r) (sym some.2) (last_stands some.0 some.1) in
+    subst (λ r. 1 ≤ times_in (last_of (link p false) r) r) (sym some.2) (last_stands some.0 some.1) in
     let here_too : 1 ≤ times_in p rest = subst (λ q. 1 ≤ times_in q rest) (sym same) end in
     let more = times_more p (link p false) rest in
     let alone = here p (link p false) [] refl in
@@ -131,12 +145,15 @@ grouped atoms i group others is lead =
     let some = some_put group (sorted others) in
     let times : Times atoms (all_links (sorted (group ∷ others))) = λ p. times_sorted p (group ∷ others) ∙ is.all p in
     let leads = leads_sorted atoms (i ∷ []) i (group ∷ others) lead in
-    let order = ascending atoms (i ∷ []) i (sorted (group ∷ others)) (is_sorted (group ∷ others)) leads (once atoms (all_links (sorted (group ∷ others))) times) in
-    (chain.Groups (some.0 ∷ some.1),
-    (with_order atoms (i ∷ []) (chain.Groups (group ∷ others)) (chain.Groups (some.0 ∷ some.1)) is
-    (Ordered.in_groups i some.0 some.1 (subst (AllLead atoms (i ∷ []) i) some.2 leads))
-    (subst (λ gs. Times atoms (all_links gs)) some.2 times),
-    subst (λ gs. InTextOrder (chain.Groups gs)) some.2 order))
+    let order = ascending atoms (i ∷ []) i (sorted (group ∷ others)) (is_sorted (group ∷ others)) leads (once atoms (all_links (sorted (group ∷ others))) times) in (
+      chain.Groups (some.0 ∷ some.1),
+      (
+        with_order atoms (i ∷ []) (chain.Groups (group ∷ others)) (chain.Groups (some.0 ∷ some.1)) is
+            (Ordered.in_groups i some.0 some.1 (subst (AllLead atoms (i ∷ []) i) some.2 leads))
+            (subst (λ gs. Times atoms (all_links gs)) some.2 times),
+        subst (λ gs. InTextOrder (chain.Groups gs)) some.2 order,
+      ),
+    )
 
 canonical : (atoms : List IxAtom) (free : List Name) (c : Chain) → IsChain atoms free c → Ordered atoms free c → Canonical atoms free
 canonical atoms free c is Ordered.no_factors = (chain.Empty, (is, tt))

@@ -1,5 +1,5 @@
 -- Groups that are put in the order of their first factors.
-use Rattle.std.proofs.Common.{◌≡◌, ℕ, ◌+◌, ◌<◌, ◌≤◌, Bool, true, false, List, [], ◌∷◌, ◌++◌, map, refl, sym, ap, ◌∙◌, subst, arith, inl, inr}
+use Rattle.std.proofs.Common.{◌≡◌, ℕ, ◌+◌, ◌<◌, ◌≤◌, Bool, true, false, List, [], ◌∷◌, map, refl, sym, ap, ◌∙◌, subst, arith, inl, inr}
 use Rattle.std.specs.Prelude.{if◌then◌else◌, nat_lt, ◌⊎◌}
 use Rattle.std.proofs.lemmas.Bool.{cases_eq, cases_lt}
 use Rattle.std.specs.List.{flat_map}
@@ -52,6 +52,7 @@ not_less m n is = elim (cases m n) [
     differ : (b : Bool) → b ≡ true → b ≡ false → ⊥
     differ true is not_is = cc not_is
     differ false is not_is = cc is
+
     cases : (m n : ℕ) → (m < n) ⊎ (n ≤ m)
     cases m n = cases_lt m n
 
@@ -66,12 +67,12 @@ pub sorted_put : (group : List Link) (gs : List (List Link)) → Sorted gs → S
 sorted_put group [] Sorted.none = subst Sorted (sym (put_alone group)) (Sorted.one_more group [] Above.none Sorted.none)
 sorted_put group (g ∷ gs) (Sorted.one_more h hs above others) = elim (true_or_false (nat_lt (first_of group) (first_of g))) [
   | inl less ↦ subst Sorted (sym (put_before group g gs less))
-    (Sorted.one_more group (g ∷ gs)
-    (let below = is_less (first_of group) (first_of g) less in
-    Above.one_more g gs (omega (arith, below)) (lower (first_of group) (first_of g) gs (omega (arith, below)) above))
-    (Sorted.one_more g gs above others))
+      (Sorted.one_more group (g ∷ gs)
+      (let below = is_less (first_of group) (first_of g) less in
+      Above.one_more g gs (omega (arith, below)) (lower (first_of group) (first_of g) gs (omega (arith, below)) above))
+      (Sorted.one_more g gs above others))
   | inr after ↦ subst Sorted (sym (put_after group g gs after))
-    (Sorted.one_more g (with_group group gs) (above_put (first_of g) group gs (not_less (first_of group) (first_of g) after) above) (sorted_put group gs others))
+      (Sorted.one_more g (with_group group gs) (above_put (first_of g) group gs (not_less (first_of group) (first_of g) after) above) (sorted_put group gs others))
 ]
 
 pub leads_put : (atoms : List IxAtom) (free : List Name) (i : Name) (group : List Link) (gs : List (List Link)) → Leads atoms free [] i group → AllLead atoms free i gs

@@ -1,24 +1,19 @@
 -- The ordering that the definition gives is one by which the term is in chain form.
-use Rattle.std.proofs.Common.{◌≡◌, ℕ, zero, suc, ◌+◌, ◌<◌, ◌≤◌, Bool, true, false, ◌||◌, ◌&&◌, List, [], ◌∷◌, ◌++◌, map, length, Option, Some, None, refl, sym, ap, ◌∙◌, subst, arith, inl, inr}
-use Rattle.std.specs.Prelude.{◌==◌, ◌⊎◌, if◌then◌else◌, slice_get, nat_lt}
+use Rattle.std.proofs.Common.{◌≡◌, ℕ, zero, suc, ◌+◌, ◌<◌, ◌≤◌, Bool, true, false, List, [], ◌∷◌, length, Some, refl, sym, ap, ◌∙◌, subst, arith, inl, inr}
+use Rattle.std.specs.Prelude.{if◌then◌else◌}
 use Rattle.std.specs.List.{list_all, flat_map, range_with_len}
-use Rattle.std.specs.Option.{option_map, option_and_then, option_map_or}
-use Rattle.std.specs.Str.{bytes_eq}
+use Rattle.std.specs.Option.{option_map_or}
 use Rattle.std.proofs.lemmas.Bool.{eqb-true, cases_eq, cases_lt}
 use Rattle.std.proofs.lemmas.List.Concat.{flat_map-cons}
 use Rattle.std.proofs.lemmas.Option.{slice_get_past}
 use Rattle.sim_syntax.specs.declared.statement.IxAtom.{IxAtom}
 use Rattle.chain_forms.specs.declared.chain.Chain.{Chain}
-use Rattle.chain_forms.specs.declared.chain.Chain.TheVariants as chain
 use Rattle.chain_forms.specs.declared.chain.Link.{Link}
-use Rattle.chain_forms.specs.Atoms.{Name, indices_of, indices_at, is_factor, is_among, one_if}
-use Rattle.chain_forms.specs.ChainForm.{link, Beside, Leads, AllLead, Ordered, links_of, times_in, first_of, last_of, Ascending, IsChain, InTextOrder}
-use Rattle.chain_forms.specs.Following.{are_paired, other_with, followed, is_vector, first_vector, after_vector, from_vector, with_group, groups_from, some_groups, between_free, by_free, is_ordered, are_ordered, if_all, ordering}
-use Rattle.chain_laws.specs.Laws.{IsOrdering}
-use Rattle.chain_laws.proofs.Names.{both_true, name_is, same_name, true_or_false, and_then_some, map_some, if_some, if_not_some, some_is}
-use Rattle.chain_laws.proofs.Leading.{leads}
-use Rattle.chain_laws.proofs.Pairs.{are_simple, are_twice}
-use Rattle.chain_laws.proofs.Times.{times_more, times_joined, times_none, here, elsewhere, later, never, has_indices, first_stands, last_stands}
+use Rattle.chain_forms.specs.Atoms.{Name, indices_of, indices_at, is_factor, one_if}
+use Rattle.chain_forms.specs.ChainForm.{Beside, Leads, AllLead, Ordered, links_of, times_in, last_of}
+use Rattle.chain_forms.specs.Following.{is_vector, first_vector, is_ordered, are_ordered, ordering}
+use Rattle.chain_laws.proofs.Names.{both_true, true_or_false, some_is}
+use Rattle.chain_laws.proofs.Times.{times_joined, times_none, elsewhere, never, has_indices}
 
 -- ---- each factor once
 
@@ -61,9 +56,9 @@ pub all_once : (atoms : List IxAtom) (free : List Name) (ordering : Chain) → O
 unfolding are_ordered
 all_once atoms free ordering ordered are p = elim (cases_lt p (length atoms)) [
   | inl below ↦ eqb-true (times_in p (links_of ordering)) (one_if (is_factor (indices_at atoms p)))
-    (all_below (is_ordered atoms (links_of ordering)) 0 (length atoms) are p (omega arith) (omega (arith, below)))
+      (all_below (is_ordered atoms (links_of ordering)) 0 (length atoms) are p (omega arith) (omega (arith, below)))
   | inr past ↦ let none = past_end atoms p past in
-    chain_never atoms free ordering p ordered none ∙ sym (ap (λ indices. one_if (is_factor indices)) none)
+      chain_never atoms free ordering p ordered none ∙ sym (ap (λ indices. one_if (is_factor indices)) none)
 ]
 
 pub at_most_once : (b : Bool) (n : ℕ) → n ≡ one_if b → n ≤ 1
@@ -84,13 +79,15 @@ first_is [] k u found = cc found
 first_is (a ∷ atoms) k u found = elim (true_or_false (is_vector (indices_of a))) [
   | inl is ↦ (0, (here_it_is (some_is k u (sym (ap (λ b. if b then Some k else first_vector (k + 1) atoms) is) ∙ found)), is, λ q below. absurd (omega (arith, below))))
   | inr is ↦ let rest = first_is atoms (k + 1) u (sym (ap (λ b. if b then Some k else first_vector (k + 1) atoms) is) ∙ found) in
-    (suc rest.0, (one_later rest.0 rest.1.0, rest.1.1, none_before is rest.0 rest.1.2))
+      (suc rest.0, (one_later rest.0 rest.1.0, rest.1.1, none_before is rest.0 rest.1.2))
 ]
   where
     here_it_is : k ≡ u → u ≡ k + 0
     here_it_is same = omega arith
+
     one_later : (r : ℕ) → u ≡ k + 1 + r → u ≡ k + suc r
     one_later r is = omega arith
+
     none_before : is_vector (indices_of a) ≡ false → (r : ℕ) → NoneBefore atoms r → NoneBefore (a ∷ atoms) (suc r)
     none_before is r before zero below = is
     none_before is r before (suc q) below = before q (omega arith)

@@ -1,7 +1,7 @@
 -- How often positions stand among links.
-use Rattle.std.proofs.Common.{◌≡◌, ℕ, zero, suc, ◌+◌, ◌<◌, ◌≤◌, Bool, true, false, List, [], ◌∷◌, ◌++◌, refl, sym, ap, ◌∙◌, subst, arith, inl, inr}
-use Rattle.std.specs.Prelude.{◌==◌, ◌⊎◌, min, sum_by}
-use Rattle.std.proofs.lemmas.Bool.{eq-eqb, ne_eqb, eqb-true}
+use Rattle.std.proofs.Common.{◌≡◌, ℕ, ◌+◌, ◌≤◌, List, [], ◌∷◌, ◌++◌, refl, sym, ap, ◌∙◌, arith, inl, inr}
+use Rattle.std.specs.Prelude.{◌==◌, ◌⊎◌, min}
+use Rattle.std.proofs.lemmas.Bool.{eq-eqb, ne_eqb}
 use Rattle.std.proofs.lemmas.List.Sums.{sum_by-cons, sum_by-append}
 use Rattle.sim_syntax.specs.declared.statement.IxAtom.{IxAtom}
 use Rattle.chain_forms.specs.declared.chain.Link.{Link}
@@ -60,10 +60,11 @@ least_stands m (l ∷ links) = elim (least_stands (min m l.factor) links) [
 ]
   where
     is_less_or_not : (a b : ℕ) → (min a b ≡ a) ⊎ (min a b ≡ b)
-    is_less_or_not a b = elim (min_is a b) [ | inl x ↦ inl x | inr y ↦ inr y ]
+    is_less_or_not a b = elim (min_is a b) [ inl x ↦ inl x | inr y ↦ inr y ]
       where
         min_is : (a b : ℕ) → (min a b ≡ a) ⊎ (min a b ≡ b)
         min_is a b = grind arith
+
     by_less : ((min m l.factor ≡ m) ⊎ (min m l.factor ≡ l.factor)) → least (min m l.factor) links ≡ min m l.factor
         → (least (min m l.factor) links ≡ m) ⊎ (1 ≤ times_in (least (min m l.factor) links) (l ∷ links))
     by_less (inl first) is = inl (is ∙ first)
