@@ -4,4 +4,5 @@ mod Names
 mod Paths
 mod Positions
 mod Scalars
+mod Sizes
 mod Terms

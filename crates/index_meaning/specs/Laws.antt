@@ -8,6 +8,7 @@ use Rattle.chain_forms.specs.Atoms.{indices_of}
 use Rattle.chain_forms.specs.ChainForm.{IsChain}
 use Rattle.value_algebra.specs.declared.value.Value.{Value}
 use Rattle.value_laws.specs.Laws.{IsWhole}
+use Rattle.index_meaning.specs.Agreement.{HaveShapes, ChainAgrees}
 use Rattle.index_meaning.specs.TermSums.{entry_of, term_sum}
 use Rattle.index_meaning.specs.LoweredValues.{term_value}
 
@@ -27,7 +28,15 @@ pub data AreWithin (size : Name → ℕ) (at : Values) : List Name → Type 0 wh
   none : AreWithin size at []
   one_more : (i : Name) (names : List Name) → at i < size i → AreWithin size at names → AreWithin size at (i ∷ names)
 
+-- sizes of the indices that the values of a term's atoms have
+pub record Sized (value : IxAtom → Value) (atoms : List IxAtom) : Type 0 where
+  pub size : Name → ℕ
+  pub sizes : HaveSizes size value atoms
+
 pub record IndexTermLaw : Type 0 where
+  -- where the sizes of values agree along a chain, each index has one
+  pub sized : (value : IxAtom → Value) (free : List Name) (atoms : List IxAtom) (ordering : Chain)
+      → IsChain atoms free ordering → HaveShapes value atoms → ChainAgrees value atoms ordering → Sized value atoms
   pub sizes : (value : IxAtom → Value) (size : Name → ℕ) (free : List Name) (atoms : List IxAtom) (ordering : Chain)
       → IsChain atoms free ordering → HaveSizes size value atoms → HasSizes size free (term_value value atoms ordering)
   pub sum : (value : IxAtom → Value) (size : Name → ℕ) (free : List Name) (atoms : List IxAtom) (ordering : Chain) (at : Values)

@@ -1,3 +1,4 @@
-pub mod TermSums
-pub mod LoweredValues
+pub mod Agreement
 pub mod Laws
+pub mod LoweredValues
+pub mod TermSums

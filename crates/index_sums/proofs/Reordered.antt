@@ -50,10 +50,11 @@ module _ {A : Type 0} (same : A → A → Bool) (decides : (x y : A) → Decides
     where
       cancelled : (a b c : ℕ) → a + b ≡ a + c → b ≡ c
       cancelled a b c both = omega (arith, both)
+
       rest : (part : Parted x ys) (z : A) → times same z xs ≡ times same z (part.before ++ part.after)
       rest part z =
           cancelled (one_if (same z x)) (times same z xs) (times same z (part.before ++ part.after))
-            (counts z ∙ ap (times same z) part.is ∙ times_middle z x part.before part.after)
+          (counts z ∙ ap (times same z) part.is ∙ times_middle z x part.before part.after)
 
 -- ---- sums of reordered lists
 

@@ -68,13 +68,13 @@ pub appended : (size : Name → ℕ) (names others : List Name) (term : Values �
 appended size [] others term at = refl
 appended size (name ∷ names) others term at =
     same_term (below size name) (λ v. over_all size (names ++ others) term (with_index at name v)) (λ v. over_all size names (over_all size others term) (with_index at name v))
-      (λ v. appended size names others term (with_index at name v))
+    (λ v. appended size names others term (with_index at name v))
 
 pub lacking : (size : Name → ℕ) (names : List Name) (name : Name) (term : Values → ℕ) → Lacks name term → Lacks name (over_all size names term)
 lacking size [] name term lacks at value = lacks at value
 lacking size (other ∷ names) name term lacks at value =
     same_term (below size other) (λ w. over_all size names term (with_index (with_index at name value) other w)) (λ w. over_all size names term (with_index at other w))
-      (λ w. by_case w (λ at w. lacking size names name term lacks at w) (cases_Bool (bytes_eq name other)))
+    (λ w. by_case w (λ at w. lacking size names name term lacks at w) (cases_Bool (bytes_eq name other)))
   where
     by_case : (w : ℕ) → Lacks name (over_all size names term) → (bytes_eq name other ≡ true) ⊎ (bytes_eq name other ≡ false)
         → over_all size names term (with_index (with_index at name value) other w) ≡ over_all size names term (with_index at other w)
@@ -89,7 +89,7 @@ module _ (sums : SumLaws ℕ) (double : DoubleSumLaws ℕ ℕ) where
   scaled size [] factor term at lacks = refl
   scaled size (name ∷ names) factor term at lacks =
       same_term (below size name) (λ v. over_all size names (λ w. factor w * term w) (with_index at name v)) (λ v. factor at * over_all size names term (with_index at name v))
-        (λ v. scaled size names factor term (with_index at name v) lacks.1 ∙ ap (λ n. n * over_all size names term (with_index at name v)) (lacks.0 at v))
+      (λ v. scaled size names factor term (with_index at name v) lacks.1 ∙ ap (λ n. n * over_all size names term (with_index at name v)) (lacks.0 at v))
       ∙ sums.scaled (factor at) (λ v. over_all size names term (with_index at name v)) (below size name)
 
   all_lacking : (size : Name → ℕ) (names others : List Name) (term : Values → ℕ) → LacksAll others term → LacksAll others (over_all size names term)
@@ -104,7 +104,7 @@ module _ (sums : SumLaws ℕ) (double : DoubleSumLaws ℕ ℕ) where
   separated size names others left right at lacks_left lacks_right =
       appended size names others (λ v. left v * right v) at
       ∙ same_sum size names (over_all size others (λ v. left v * right v)) (λ v. over_all size others right v * left v)
-          (λ v. scaled size others left right v lacks_left ∙ swapped (left v) (over_all size others right v)) at
+      (λ v. scaled size others left right v lacks_left ∙ swapped (left v) (over_all size others right v)) at
       ∙ scaled size names (over_all size others right) left at (all_lacking size others names right lacks_right)
       ∙ swapped (over_all size others right at) (over_all size names left at)
 
@@ -113,7 +113,7 @@ module _ (sums : SumLaws ℕ) (double : DoubleSumLaws ℕ ℕ) where
   congruent m size [] term other at same = same at
   congruent m size (name ∷ names) term other at same =
       sums.congruent m (λ v. over_all size names term (with_index at name v)) (λ v. over_all size names other (with_index at name v)) (below size name)
-        (λ v. congruent m size names term other (with_index at name v) same)
+      (λ v. congruent m size names term other (with_index at name v) same)
 
   -- ---- the order of the indices
 
@@ -129,9 +129,9 @@ module _ (sums : SumLaws ℕ) (double : DoubleSumLaws ℕ ℕ) where
       by_case (inr differ) =
           double.exchanged (λ v w. over_all size names term (with_index (with_index at a v) b w)) (below size a) (below size b)
           ∙ same_term (below size b) (λ w. sum_by (λ v. over_all size names term (with_index (with_index at a v) b w)) (below size a))
-              (λ w. sum_by (λ v. over_all size names term (with_index (with_index at b w) a v)) (below size a))
-              (λ w. same_term (below size a) (λ v. over_all size names term (with_index (with_index at a v) b w)) (λ v. over_all size names term (with_index (with_index at b w) a v))
-                (λ v. ap (over_all size names term) (either_order at a b v w differ)))
+          (λ w. sum_by (λ v. over_all size names term (with_index (with_index at b w) a v)) (below size a))
+          (λ w. same_term (below size a) (λ v. over_all size names term (with_index (with_index at a v) b w)) (λ v. over_all size names term (with_index (with_index at b w) a v))
+          (λ v. ap (over_all size names term) (either_order at a b v w differ)))
 
   -- an index taken out of the middle
   from_middle : (size : Name → ℕ) (name : Name) (before after : List Name) (term : Values → ℕ) (at : Values)
@@ -139,7 +139,7 @@ module _ (sums : SumLaws ℕ) (double : DoubleSumLaws ℕ ℕ) where
   from_middle size name [] after term at = refl
   from_middle size name (other ∷ before) after term at =
       same_term (below size other) (λ v. over_all size (before ++ name ∷ after) term (with_index at other v)) (λ v. over_all size (name ∷ before ++ after) term (with_index at other v))
-        (λ v. from_middle size name before after term (with_index at other v))
+      (λ v. from_middle size name before after term (with_index at other v))
       ∙ exchanged size other name (before ++ after) term at
 
   pub any_order : (size : Name → ℕ) (names others : List Name) (term : Values → ℕ) (at : Values) → IsReordered names others
@@ -147,5 +147,5 @@ module _ (sums : SumLaws ℕ) (double : DoubleSumLaws ℕ ℕ) where
   any_order size names others term at nothing = refl
   any_order size names others term at (moved name rest before after same) =
       same_term (below size name) (λ v. over_all size rest term (with_index at name v)) (λ v. over_all size (before ++ after) term (with_index at name v))
-        (λ v. any_order size rest (before ++ after) term (with_index at name v) same)
+      (λ v. any_order size rest (before ++ after) term (with_index at name v) same)
       ∙ sym (from_middle size name before after term at)

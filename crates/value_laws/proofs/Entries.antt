@@ -102,9 +102,9 @@ unfolding dot
 dot_is left right whole right_whole left_column right_column rows =
     let size : length left.words ≡ left.rows = whole ∙ ap (λ n. left.rows * n) left_column ∙ omega arith in
     ap (λ n. word (pos n))
-      (pairs_summed left.words right.words 0 (λ row. word_at left row 0) (λ row. word_at right row 0) (same_length left right whole right_whole rows (left_column ∙ sym right_column))
-        (λ i. ap (λ k. get_or left.words k 0) (column_index left.columns i left_column)) (λ i. ap (λ k. get_or right.words k 0) (column_index right.columns i right_column))
-      ∙ ap (λ n. sum_by (λ row. word_at left row 0 * word_at right row 0) (range_with_len 0 n)) size)
+    (pairs_summed left.words right.words 0 (λ row. word_at left row 0) (λ row. word_at right row 0) (same_length left right whole right_whole rows (left_column ∙ sym right_column))
+    (λ i. ap (λ k. get_or left.words k 0) (column_index left.columns i left_column)) (λ i. ap (λ k. get_or right.words k 0) (column_index right.columns i right_column))
+    ∙ ap (λ n. sum_by (λ row. word_at left row 0 * word_at right row 0) (range_with_len 0 n)) size)
   where
     column_index : (columns i : ℕ) → columns ≡ 1 → i ≡ (0 + i) * columns + 0
     column_index columns i one = omega arith ∙ ap (λ n. (0 + i) * n + 0) (sym one)

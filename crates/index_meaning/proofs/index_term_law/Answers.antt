@@ -1,3 +1,4 @@
+use Rattle.index_meaning.proofs.Sizes.{sized}
 use Rattle.index_meaning.proofs.Terms.{sizes, sum}
 use Rattle.index_meaning.proofs.index_term_law.Goals as goal
 
@@ -13,6 +14,7 @@ returns c =
     let names = c.reorder_law-2.ensures in
     let entries = c.entry_law.ensures in
     record {
+      sized = sized reorder;
       sizes = sizes sums double ranges index products numbers entries reorder names;
       sum = sum sums double ranges index products numbers entries reorder names;
     }
