@@ -1,7 +1,7 @@
 -- What stood on a stack is there still.
-use Rattle.std.proofs.Common.{◌≡◌, ℕ, zero, suc, ◌+◌, ◌-◌, ◌≤◌, List, [], ◌∷◌, ◌++◌, length, take, drop, sym, ap, ◌∙◌, arith, refl, append_assoc, length-append}
+use Rattle.std.proofs.Common.{◌≡◌, ℕ, zero, suc, ◌+◌, ◌-◌, ◌≤◌, List, [], ◌∷◌, ◌++◌, length, take, drop, sym, ap, ◌∙◌, arith, refl}
 use Rattle.std.specs.Prelude.{min, slice_range}
-use Rattle.std.proofs.lemmas.List.{drop-append-le, drop-take, drop_all, length-drop, length-map, length-take, length-take-le, take-append-drop, take-append-le, take_all}
+use Rattle.std.proofs.lemmas.List.{drop-append-le, drop-take, length-take, length-take-le, take-append-drop}
 
 take_within : {A : Type 0} (base middle : ℕ) (xs : List A) → base ≤ middle → take base (take middle xs) ≡ take base xs
 take_within zero middle xs order = refl
