@@ -6,7 +6,7 @@ use Rattle.std.proofs.Math.Seq.{take-append_seam, drop-append_seam}
 use Rattle.std.proofs.lemmas.Slice.Zip.{length-zip}
 use Rattle.word_stacks.specs.declared.slices.Join.{Join}
 use Rattle.word_stacks.specs.Stack.{joined, joined_words, joined_within}
-use Rattle.std.proofs.lemmas.List.{drop-append-le, drop-take, drop_all, length-drop, length-map, length-take, length-take-le, take-append-drop, take-append-le, take_all}
+use Rattle.std.proofs.lemmas.List.{drop-append-le, drop-take, drop_all, length-drop, length-map, length-take, length-take-le, take-append-le, take_all}
 
 -- what stands above is the same whatever is taken away from above it
 pub range_kept : (xs ys : List ℕ) (base top : ℕ) → base ≤ top → top ≤ length xs → slice_range (xs ++ ys) base top ≡ slice_range xs base top

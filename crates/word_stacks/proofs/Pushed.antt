@@ -1,5 +1,5 @@
 -- Products and transposes, pushed above the values that they are made of.
-use Rattle.std.proofs.Common.{◌≡◌, ℕ, ◌+◌, ◌≤◌, List, [], ◌∷◌, ◌++◌, length, map, sym, ap, ◌∙◌, arith, length-append}
+use Rattle.std.proofs.Common.{◌≡◌, ℕ, ◌+◌, ◌≤◌, List, [], ◌∷◌, ◌++◌, length, map, ap, ◌∙◌, arith, length-append}
 use Rattle.std.specs.Prelude.{pos, slice_range}
 use Rattle.std.specs.List.{flat_map, range_with_len}
 use Rattle.ring_words.specs.Word.{word}
