@@ -1,2 +1,4 @@
 mod Equals
+mod Form
+mod Fullness
 mod Numbers

@@ -1,6 +1,7 @@
 ghost use Rattle.std.specs.Prelude.{◌≡◌, map, string_bytes};
 ghost use Rattle.vocabulary.specs.Answers.{Answers};
 ghost use Rattle.command_words.specs.Commands.{command_of, words_of};
+ghost use Rattle.command_words.specs.Form.{FormLaw};
 ghost use Rattle.command_words.specs.declared.command.WordsFault.TheVariants.{Memory};
 
 use crate::argument::arguments;
@@ -9,8 +10,18 @@ use crate::shapes::{make_of, plain_of, plan_of, run_of};
 use crate::{Words, WordsFault};
 use std::alloc::Global;
 
-/// The command that the words state, or that they are refused.
+/// The command that the words state, or that they are refused. Whatever words give options and positional words, those
+/// of one form state the same command: each option with its value as one word, then `--`, then the positional words.
+#[tactic(auto, using(crate::proofs::Form::form_law))]
 pub fn read(alloc: Global, words: &[String]) -> Result<Words, WordsFault>
+    ensures value { Answers Memory (words_of (map string_bytes words.now)) result }
+    ensures form { FormLaw }
+{
+    command_in(alloc, words)
+}
+
+/// The command of all words.
+fn command_in(alloc: Global, words: &[String]) -> Result<Words, WordsFault>
     ensures { Answers Memory (words_of (map string_bytes words.now)) result }
 {
     match words {
