@@ -15,7 +15,7 @@ fn tree(rt: &(impl Abort + AllocGlobal), text: &[u8]) -> Result<Program, Fail> {
 }
 
 /// Index expressions, and what is assigned in their place.
-static LOWERED: [(&str, &str); 42] = [
+static LOWERED: [(&str, &str); 44] = [
     // no free index
     ("ix () 2", "2"),
     ("ix () -2", "-2"),
@@ -67,6 +67,15 @@ static LOWERED: [(&str, &str); 42] = [
     ("ix (i,j) a*C(m,j)*A(i,k)*3*B(m,k)", "a*3*(A*B'*C)"),
     ("ix (i,j) A(i,k)*B(k,m)*C(m,j)", "A*B*C"),
     ("ix (i,j) -A(i,j)+A(j,i)", "-A+A'"),
+    // nine factors
+    (
+        "ix (i,r) I(q,r)*B(k,j)*F(n,o)*A(i,j)*H(p,q)*D(l,m)*G(o,p)*C(k,l)*E(n,m)",
+        "A*B'*C*D*E'*F*G*H*I",
+    ),
+    (
+        "ix () w(p)*E(n,m)*A(j,i)*C(k,l)*u(i)*G(o,p)*D(l,m)*B(k,j)*F(n,o)",
+        "dot(w, G'*(F'*(E*(D'*(C'*(B*(A*u)))))))",
+    ),
 ];
 
 /// The text of a program that assigns a right side.
@@ -82,6 +91,58 @@ fn index_expressions_as_products(rt: HostRuntime) -> Result<(), Fail> {
         let found = print(rt.alloc(), found.program())?;
         let want = print(rt.alloc(), &tree(&rt, &assigning(&rt, want)?)?)?;
         assert_eq!(rt; found.as_slice(), want.as_slice(), "of {text}");
+    }
+    Ok(())
+}
+
+/// Free indices, six factors, and what the term is lowered to in whatever order they stand.
+static CHAINS: [(&str, &[&str], &str); 2] = [
+    (
+        "i,o",
+        &["A(i,j)", "B(k,j)", "C(k,l)", "D(l,m)", "E(n,m)", "F(n,o)"],
+        "A*B'*C*D*E'*F",
+    ),
+    (
+        "i",
+        &["A(i,j)", "B(k,j)", "C(k,l)", "D(l,m)", "E(n,m)", "v(n)"],
+        "A*(B'*(C*(D*(E'*v))))",
+    ),
+];
+
+/// A term of factors in one of the orders that they can have, by its number.
+fn in_order(
+    rt: &(impl Abort + AllocGlobal),
+    factors: &[&str],
+    number: usize,
+) -> Result<String, Fail> {
+    let mut left = Vec::from_slice(rt.alloc(), factors)?;
+    let mut number = number;
+    let mut term = String::new(rt.alloc());
+    for taken in 0..factors.len() {
+        let count = factors.len() - taken;
+        let at = number % count;
+        number /= count;
+        if at < left.len() {
+            if !term.is_empty() {
+                term.push_str("*")?;
+            }
+            term.push_str(left.remove(at))?;
+        }
+    }
+    Ok(term)
+}
+
+#[test]
+fn six_factors_in_every_order(rt: HostRuntime) -> Result<(), Fail> {
+    for (free, factors, want) in &CHAINS {
+        let want = print(rt.alloc(), &tree(&rt, &assigning(&rt, want)?)?)?;
+        for number in 0..720 {
+            let term = in_order(&rt, factors, number)?;
+            let text = format!(in rt.alloc(); "ix ({free}) {term}")?;
+            let found = lower(rt.alloc(), tree(&rt, &assigning(&rt, text.as_str())?)?)?;
+            let found = print(rt.alloc(), found.program())?;
+            assert_eq!(rt; found.as_slice(), want.as_slice(), "of {text}");
+        }
     }
     Ok(())
 }

@@ -5,7 +5,7 @@ use Rattle.sim_syntax.specs.declared.expression.Expr.{Expr}
 use Rattle.sim_syntax.specs.declared.expression.Expr.TheVariants as expr
 use Rattle.sim_syntax.specs.declared.expression.SumTerm.{SumTerm, out-SumTerm}
 use Rattle.chain_forms.specs.Lowered.{sum}
-use Rattle.index_notation.specs.Tests.{is_plain}
+use Rattle.index_notation.specs.Parts.{is_plain}
 
 by_sign : (minus b : Bool) (x y : Expr) → not minus ≡ b → (if minus then x else y) ≡ (if b then y else x)
 by_sign true b x y is = ap (λ c. if c then y else x) is

@@ -6,7 +6,7 @@ use Rattle.std.proofs.lemmas.List.{append_assoc}
 use Rattle.sim_syntax.specs.declared.statement.IxAtom.{IxAtom}
 use Rattle.chain_forms.specs.declared.chain.Link.{Link}
 use Rattle.chain_forms.specs.Atoms.{Name, indices_at, is_among}
-use Rattle.index_notation.specs.Tests.{to_vector}
+use Rattle.index_notation.specs.Parts.{to_vector}
 use Rattle.chain_forms.specs.Following.{followed, onward, link_at, leaving, other_with, is_end}
 
 abbrev pub before : List Link → Option (List Link) → Option (List Link)

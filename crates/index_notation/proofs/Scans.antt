@@ -8,7 +8,7 @@ use Rattle.chain_forms.specs.declared.chain.Link.{Link}
 use Rattle.chain_forms.specs.ChainForm.{least}
 use Rattle.chain_forms.specs.Atoms.{Name, indices_of}
 use Rattle.chain_forms.specs.Following.{other_with, first_vector, is_vector}
-use Rattle.index_notation.specs.Tests.{is_other_with}
+use Rattle.index_notation.specs.Parts.{is_other_with}
 
 -- the list from an item on
 pub from_item : {A : Type 0} (xs : List A) (k : ℕ) (x : A) → k < length xs → x ≡ get_or xs k x → drop k xs ≡ x ∷ drop (k + 1) xs

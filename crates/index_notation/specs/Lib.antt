@@ -1,2 +1,2 @@
 pub mod Lowers
-pub mod Tests
+pub mod Parts

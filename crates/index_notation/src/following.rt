@@ -3,7 +3,7 @@
 ghost use Rattle.std.specs.Prelude.{◌≡◌, IfOk, length};
 ghost use Rattle.std.specs.Option.{option_copied};
 ghost use Rattle.chain_forms.specs.Following as spec;
-ghost use Rattle.index_notation.specs.Tests as tests;
+ghost use Rattle.index_notation.specs.Parts as parts;
 
 use crate::atoms::{indices_at, indices_of, is_among, is_same};
 use chain_forms::Link;
@@ -13,7 +13,7 @@ use vocabulary::{L, NoMemory};
 
 /// Whether an atom at a position has an index, and is another one than that at a position.
 fn is_other(index: &Name, but: usize, position: usize, atom: &IxAtom) -> bool
-    ensures { result ≡ tests.is_other_with index.now but position atom.now }
+    ensures { result ≡ parts.is_other_with index.now but position atom.now }
 {
     is_among(index, indices_of(atom)) && position != but
 }
@@ -74,7 +74,7 @@ fn is_end(end: Option<&Name>, index: &Name) -> bool
 
 /// Links to a vector, where no free index is the end.
 fn to_vector(end: Option<&Name>, links: L<Link>) -> Option<L<Link>>
-    ensures { result ≡ tests.to_vector (option_copied end.entry) links }
+    ensures { result ≡ parts.to_vector (option_copied end.entry) links }
 {
     match end {
         Some(_) => None,

@@ -3,7 +3,7 @@
 ghost use Rattle.std.specs.Prelude.{◌≡◌, ◌++◌, ◌∷◌, ◌≤◌, [], IfOk, drop, length, take};
 ghost use Rattle.chain_forms.specs.ChainForm as form;
 ghost use Rattle.chain_forms.specs.Following as spec;
-ghost use Rattle.index_notation.specs.Tests as tests;
+ghost use Rattle.index_notation.specs.Parts as parts;
 
 use crate::atoms::{indices_at, indices_of, is_among, is_factor, is_same};
 use crate::following::{followed, other_with};
@@ -35,7 +35,7 @@ fn first_vector(atoms: &[IxAtom]) -> Option<usize>
 
 /// The links after a first vector.
 fn after_vector(alloc: Global, atoms: &[IxAtom], first: usize) -> Result<Option<Chain>, NoMemory>
-    ensures { IfOk result (λ chain. chain ≡ tests.after_first atoms.now first) }
+    ensures { IfOk result (λ chain. chain ≡ parts.after_first atoms.now first) }
 {
     let [index] = indices_at(atoms, first) else {
         return Ok(None);
@@ -146,7 +146,7 @@ fn in_groups(
     atoms: &[IxAtom],
 ) -> Result<Option<Chain>, NoMemory>
     requires { free.now ≡ index.now ∷ [] }
-    ensures { IfOk result (λ chain. chain ≡ tests.in_groups index.now atoms.now) }
+    ensures { IfOk result (λ chain. chain ≡ parts.in_groups index.now atoms.now) }
 {
     match groups(alloc, free, index, atoms)? {
         Some(groups) if !groups.items().is_empty() => Ok(Some(Chain::Groups(groups))),

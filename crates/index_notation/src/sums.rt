@@ -4,7 +4,7 @@ ghost use Rattle.std.specs.Prelude.{◌≡◌, map};
 ghost use Rattle.vocabulary.specs.Answers.{all_ok};
 ghost use Rattle.chain_forms.specs.Lowered as spec;
 ghost use Rattle.index_notation.specs.Lowers.{Lowers};
-ghost use Rattle.index_notation.specs.Tests.{is_plain};
+ghost use Rattle.index_notation.specs.Parts.{is_plain};
 
 use crate::atoms::line_of;
 use crate::fault::LowerFault;

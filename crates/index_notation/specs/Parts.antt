@@ -1,4 +1,4 @@
--- Tests that contracts inside this crate cite.
+-- Words that contracts inside this crate alone use.
 use Rattle.std.specs.Prelude.{ℕ, ◌==◌, Bool, ◌&&◌, not, false, List, [], ◌∷◌, Option, Some, None}
 use Rattle.std.specs.Option.{option_and_then}
 use Rattle.sim_syntax.specs.declared.expression.SumTerm.{SumTerm, out-SumTerm}
