@@ -82,7 +82,7 @@ refused 'points.x = 2*points.x' 'line 7, token 29: syntax'
 refused 'points.y = points.x;' 'line 6: unknown name'
 refused 'points.x = points.x + 1;' 'line 6: shape'
 refused 'points.x = 1.5*points.x;' 'line 6: scale'
-refused 'points.x = ix (i) points.x(i);' 'not yet'
+refused 'points.x = ix (i) points.x(j);' 'line 6: not a chain'
 
 # stopped STATUS NOTE LINE: a program with this text in its sixth line stops so, and puts nothing out
 stopped() {

@@ -28,9 +28,6 @@ use Rattle.run_notes.specs.declared.failure.Failure.TheVariants.{Memory, ReadFau
 abbrev pub usage_note : List ℕ
 usage_note = codes "usage: simit run PROGRAM SETS..\n"
 
-abbrev pub not_yet_note : List ℕ
-not_yet_note = codes "refused: not yet\n"
-
 abbrev pub memory_note : List ℕ
 memory_note = codes "no memory\n"
 
@@ -122,8 +119,8 @@ refusal_note names (refusal.FileLimit role) =
     concat (codes "limit: " ∷ names role ∷ codes " is over " ∷ decimal (limit_of role) ∷ codes " bytes\n" ∷ [])
 refusal_note names (refusal.Lexical line fault) = place_note line (codes ", byte ") (offset_of fault) (lexical_words fault)
 refusal_note names (refusal.Syntax line token) = place_note line (codes ", token ") token (codes ": syntax\n")
+refusal_note names (refusal.NotAChain line) = line_note line (codes ": not a chain\n")
 refusal_note names (refusal.IllTyped line kind) = line_note line (kind_words kind)
-refusal_note names refusal.NotYet = not_yet_note
 refusal_note names (refusal.FileCount files sets) =
     concat (codes "refused: " ∷ decimal files ∷ codes " files for " ∷ decimal sets ∷ codes " sets\n" ∷ [])
 refusal_note names (refusal.Table number fault) = table_note (names (role.Table number)) fault

@@ -18,10 +18,10 @@ pub enum Refusal {
     Lexical { line: u32, fault: LexFault },
     /// The program's tokens derive no tree: the index of the first that can't go on, and its line.
     Syntax { line: u32, token: u32 },
+    /// The index expression of this line, the first of the program that isn't, is not in chain form.
+    NotAChain { line: u32 },
     /// A node of this line has no type.
     IllTyped { line: u32, kind: TypeKind },
-    /// An index expression stands in the program; those don't run yet.
-    NotYet,
     /// There are so many tables for another number of sets.
     FileCount { files: usize, sets: usize },
     /// The table of the set of this number states no set.

@@ -359,8 +359,8 @@ fn put_refusal<N: Sink>(notes: &mut N, command: Command<'_>, refusal: Refusal)
         Refusal::Syntax { line, token } => {
             put_place(notes, line, ", token ", token, ": syntax\n");
         }
+        Refusal::NotAChain { line } => put_line(notes, line, ": not a chain\n"),
         Refusal::IllTyped { line, kind } => put_line(notes, line, kind_words(kind)),
-        Refusal::NotYet => put_pieces(notes, &["refused: not yet\n"]),
         Refusal::FileCount { files, sets } => put_file_count(notes, files, sets),
         Refusal::Table { set, fault } => {
             put_table_fault(notes, command.file_name(FileRole::Table(set)), fault);

@@ -1,4 +1,5 @@
-//! From the program's file to the typed program: its tokens, the tree that they derive, and its types.
+//! From the program's file to the typed program: its tokens, the tree that they derive, the program that this is lowered to, and
+//! its types.
 
 ghost use Rattle.std.specs.Prelude.{◌≡◌, ◌≤◌, All, IfOk, drop, length};
 ghost use Rattle.vocabulary.specs.Answers.{Answers};
@@ -7,6 +8,7 @@ ghost use Rattle.sim_lexer.specs.Tokens.{EndsOnce, IsSpelled, LiesIn, tokens};
 ghost use Rattle.sim_lexer.specs.Words.{words_of};
 ghost use Rattle.sim_grammar.specs.ReadProgram.{program_in};
 ghost use Rattle.sim_grammar.specs.Rule.{line_of};
+ghost use Rattle.chain_forms.specs.Lowered.{lowered};
 ghost use Rattle.typed_tree.specs.Typed.{typed};
 ghost use Rattle.simit_run.specs.Answer as spec;
 ghost use Rattle.simit_run.specs.ProgramText as text;
@@ -15,6 +17,7 @@ ghost use Rattle.simit_run.specs.Stage.{refused};
 
 use crate::file::read_file;
 use block_types::{Typed, check};
+use index_notation::{LowerFault, lower};
 use run_notes::{Failure, FileRole, Refusal, offset_of};
 use sim_lexer::{LexFault, Token, Tokens, lex, line_at};
 use sim_parser::{ParseFault, parse};
@@ -71,21 +74,22 @@ fn tree_of(alloc: Global, source: &[u8], tokens: &Tokens) -> Result<sim_syntax::
     }
 }
 
-/// The tree, if no index expression stands in it.
-fn lowered_of(tree: sim_syntax::Program) -> Result<Lowered, Failure>
-    ensures { result ≡ refused (text.lowered tree) }
+/// The program without index expressions that a tree is lowered to.
+fn lowered_of(alloc: Global, tree: sim_syntax::Program) -> Result<Lowered, Failure>
+    ensures { Answers Failure.Memory (refused (text.chained (lowered tree))) result }
 {
-    match Lowered::of(tree) {
-        Ok(lowered) => Ok(lowered),
-        Err(_) => Err(Failure::Refused(Refusal::NotYet)),
+    match lower(alloc, tree) {
+        Ok(program) => Ok(program),
+        Err(LowerFault::Memory) => Err(Failure::Memory),
+        Err(LowerFault::NotAChain { line }) => Err(Failure::Refused(Refusal::NotAChain { line })),
     }
 }
 
-/// The tree with its types.
-fn typed_of(alloc: Global, lowered: Lowered) -> Result<Typed, Failure>
-    ensures { Answers Failure.Memory (refused (text.typing (typed lowered))) result }
+/// The program with its types.
+fn typed_of(alloc: Global, program: Lowered) -> Result<Typed, Failure>
+    ensures { Answers Failure.Memory (refused (text.typing (typed program))) result }
 {
-    match check(alloc, lowered) {
+    match check(alloc, program) {
         Ok(typed) => Ok(typed),
         Err(CheckFault::Memory) => Err(Failure::Memory),
         Err(CheckFault::IllTyped { line, kind }) => {
@@ -112,8 +116,8 @@ fn typed_in(alloc: Global, source: &[u8]) -> Result<Typed, Failure>
     ensures { Answers Failure.Memory (refused (text.typed_of source.now)) result }
 {
     let tree = tree_in(alloc, source)?;
-    let lowered = lowered_of(tree)?;
-    let typed = typed_of(alloc, lowered)?;
+    let program = lowered_of(alloc, tree)?;
+    let typed = typed_of(alloc, program)?;
     Ok(typed)
 }
 

@@ -35,8 +35,8 @@ fn refusal_status(refusal: Refusal) -> Status
         Refusal::Words
         | Refusal::Lexical { .. }
         | Refusal::Syntax { .. }
+        | Refusal::NotAChain { .. }
         | Refusal::IllTyped { .. }
-        | Refusal::NotYet
         | Refusal::FileCount { .. }
         | Refusal::Table { .. } => Status::Refused,
     }

@@ -1,5 +1,6 @@
 //! Assembled matrices: what is put at their places, their products with vectors, their transposes, and the sets of their sides.
-use crate::runs::{Row, assert_printed};
+use crate::calls::{done, refused};
+use crate::runs::{Row, assert_printed, assert_run};
 use std::test::Fail;
 use worked_texts::{DOUBLED, POINTS, POINTS_AND_SPRINGS, RATIO, SPRINGS, STIFF, STIFFNESS};
 
@@ -181,4 +182,45 @@ end
 #[test]
 fn matrices_and_what_they_print(rt: HostRuntime) -> Result<(), Fail> {
     assert_printed(&rt, &PRINTED)
+}
+
+/// Index expressions in line 18, after a stiffness matrix, with what is printed or the note: a matrix times a vector, its
+/// transpose, and products entry by entry; one that is no chain; and a matrix without indices, which is no scalar.
+static INDEXED: [(&str, &str, &str); 5] = [
+    (
+        "ix (i) -K(i,j)*points.x(j)",
+        "set points\nx,f\n0,20\n10,25\n25,-45\nset springs\np0,p1,k\n0,1,2\n1,2,3\n",
+        "",
+    ),
+    (
+        "ix (i) 2*K(j,i)*points.x(j)",
+        "set points\nx,f\n0,-40\n10,-50\n25,90\nset springs\np0,p1,k\n0,1,2\n1,2,3\n",
+        "",
+    ),
+    (
+        "ix (i) points.x(i)*points.x(i)",
+        "set points\nx,f\n0,0\n10,100\n25,625\nset springs\np0,p1,k\n0,1,2\n1,2,3\n",
+        "",
+    ),
+    (
+        "ix (i) K(i,i)*points.x(i)",
+        "",
+        "refused: line 18: not a chain\n",
+    ),
+    ("ix (i) K*points.x(i)", "", "refused: line 18: shape\n"),
+];
+
+#[test]
+fn index_expressions_over_a_matrix(rt: HostRuntime) -> Result<(), Fail> {
+    let map = "proc main\n  var K = map stiff to springs reduce +;\n  points.f = ";
+    for (indexed, out, note) in &INDEXED {
+        let program = [POINTS_AND_SPRINGS, STIFF, map, indexed, ";\nend\n"];
+        let end = if note.is_empty() {
+            done(out)
+        } else {
+            refused(note)
+        };
+        assert_run(&rt, &program, &[POINTS, SPRINGS], end)?;
+    }
+    Ok(())
 }

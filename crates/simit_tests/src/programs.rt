@@ -89,8 +89,8 @@ fn one_program_in_many_layouts(rt: HostRuntime) -> Result<(), Fail> {
 }
 
 /// Programs that are refused, with their notes: bytes that begin no token, a name that is too long, brackets that are too
-/// deep; tokens without a tree; an index expression; and nodes without a type.
-static REFUSED: [(&[u8], &str); 16] = [
+/// deep; tokens without a tree; index expressions that aren't in chain form; and nodes without a type.
+static REFUSED: [(&[u8], &str); 18] = [
     (
         b"element P x: int(0); end extern s: set{P}; proc main s.x = s.x? end",
         "refused: line 1, byte 62: bad byte\n",
@@ -116,9 +116,18 @@ static REFUSED: [(&[u8], &str); 16] = [
         "refused: line 6, token 16: syntax\n",
     ),
     (b"\n\nproc main\n", "refused: line 4, token 2: syntax\n"),
+    // what is no chain comes after tokens without a tree and before nodes without a type, wherever they stand
+    (
+        b"element P x: int(0); end extern s: set{P}; proc main\ns.x = ix(i) s.x(j);\ns.x = ; end",
+        "refused: line 3, token 39: syntax\n",
+    ),
+    (
+        b"element P x: int(0); end extern s: set{P}; proc main\ns.z = s.x;\ns.x = ix(i) s.x(j);\ns.x = ix(i, i) 1; end",
+        "refused: line 3: not a chain\n",
+    ),
     (
         b"element P x: int(0); end extern s: set{P}; proc main s.x = ix(i) s.z(i); end",
-        "refused: not yet\n",
+        "refused: line 1: unknown name\n",
     ),
     (
         b"element P x: int(0); end extern s: set{P}; proc main\ns.z = s.x; end",

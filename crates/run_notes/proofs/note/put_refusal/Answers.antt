@@ -2,6 +2,3 @@ use Rattle.run_notes.proofs.note.put_refusal.Goals as goal
 
 pub returns-in-Syntax-clause-note : goal.returns-in-Syntax-clause-note
 returns-in-Syntax-clause-note g c = rw c.in-Syntax.is c.put_place-in-Syntax.ensures.note
-
-pub returns-in-NotYet-clause-note : goal.returns-in-NotYet-clause-note
-returns-in-NotYet-clause-note g c = rw c.in-NotYet.is c.put_pieces.ensures.note
