@@ -7,6 +7,7 @@ use hypergraph::Sets;
 use std::process::Abort;
 use std::test::Fail;
 use value_algebra::{block_of, entries};
+use vocabulary::L;
 use write_back::{assign, schema};
 
 /// Points and links, and nothing to do.
@@ -101,6 +102,7 @@ fn give(
     let width = entries(block_of(typed.fields(set), field));
     assert!(rt; width <= 36);
     assert!(rt; words.len() as u64 == u64::from(sets.count(set)) * width);
+    let words = L::of(words.to_vec(rt.alloc())?);
     assign(rt.alloc(), sets, typed, set, field, words)?;
     Ok(())
 }

@@ -1,6 +1,7 @@
 //! Conjugate gradients in fixed point, over 100 nodes and 400 links.
 use crate::calls::{Call, output_of};
 use std::alloc::{AllocError, Global};
+use std::process::Abort;
 use std::test::Fail;
 use worked_texts::GRADIENTS;
 
@@ -39,21 +40,31 @@ static LINES: [(usize, &str); 6] = [
 /// A sum over the bytes of the output, in which what stands before a byte counts 31 times.
 const SUM: u64 = 10_662_605_833_680_777_975;
 
+/// What the program prints over two tables.
+fn printed(
+    rt: &(impl Abort + AllocGlobal),
+    program: &str,
+    nodes: &str,
+    links: &str,
+) -> Result<Vec<u8>, Fail> {
+    let files = [
+        ("a.sim", program.as_bytes()),
+        ("nodes.csv", nodes.as_bytes()),
+        ("links.csv", links.as_bytes()),
+    ];
+    output_of(
+        rt,
+        Call::of(&["run", "a.sim", "nodes.csv", "links.csv"], &files),
+    )
+}
+
 /// The output is the one of two other programs: that of `python3 bench/gradients.py 100 400`, which solves the same in whole
 /// numbers over sparse rows, and that of the interpreter in conformance/reference.py.
 #[test]
 fn gradients_over_100_nodes(rt: HostRuntime) -> Result<(), Fail> {
     let nodes = nodes(rt.alloc())?;
     let links = links(rt.alloc())?;
-    let files = [
-        ("a.sim", GRADIENTS.as_bytes()),
-        ("nodes.csv", nodes.as_bytes()),
-        ("links.csv", links.as_bytes()),
-    ];
-    let out = output_of(
-        &rt,
-        Call::of(&["run", "a.sim", "nodes.csv", "links.csv"], &files),
-    )?;
+    let out = printed(&rt, GRADIENTS, nodes.as_str(), links.as_str())?;
     let Ok(text) = str::from_utf8(&out) else {
         panic!(rt; "an output that is no text");
     };
