@@ -1,8 +1,8 @@
 -- Sizes of indices, where those of values agree along a chain.
-use Rattle.std.proofs.Common.{◌≡◌, ℕ, zero, suc, ◌+◌, ◌*◌, ◌<◌, Bool, true, false, List, [], ◌∷◌, ◌++◌, refl, sym, ap, ◌∙◌, inl, inr, subst, arith}
-use Rattle.std.specs.Prelude.{◌⊎◌, ◌||◌, ◌==◌, length, if◌then◌else◌, sum_by}
+use Rattle.std.proofs.Common.{◌≡◌, ℕ, zero, suc, ◌+◌, ◌<◌, Bool, true, false, List, [], ◌∷◌, ◌++◌, refl, sym, ap, ◌∙◌, inl, inr, subst, arith}
+use Rattle.std.specs.Prelude.{◌⊎◌, ◌||◌, ◌==◌, if◌then◌else◌, sum_by}
 use Rattle.std.specs.Str.{bytes_eq}
-use Rattle.std.proofs.lemmas.Bool.{cases_Bool, true≢false}
+use Rattle.std.proofs.lemmas.Bool.{cases_Bool}
 use Rattle.std.proofs.lemmas.Bool.Decides.{Decides-eqb}
 use Rattle.std.proofs.lemmas.List.Concat.{flat_map-cons}
 use Rattle.std.proofs.lemmas.List.Sums.{sum_by-cons}
@@ -26,7 +26,7 @@ use Rattle.index_meaning.specs.LoweredValues.{value_at, used_value}
 use Rattle.index_meaning.proofs.Basics.{counted, same_name, other_order, times-append}
 use Rattle.index_meaning.proofs.Links.{shared, simple_matrix, group_names, all_links}
 use Rattle.index_meaning.proofs.Names.{chain_names, names_differ, free_never}
-use Rattle.index_meaning.proofs.Paths.{Different, different_rest, front_once, front_differs}
+use Rattle.index_meaning.proofs.Paths.{Different, different_rest, front_differs}
 
 if_true : {A : Type 0} (b : Bool) (x y : A) → b ≡ true → (if b then x else y) ≡ x
 if_true b x y holds = ap (λ c. if c then x else y) holds
@@ -232,10 +232,11 @@ module _ (value : IxAtom → Value) (atoms : List IxAtom) (simple : (position : 
       → Different (i ∷ group_names all) → (size : Name → ℕ) × AllSized value atoms size (all_links (group ∷ others))
   groups_sized i g gs (AllLead.one_more group groups leads more) agrees differ =
       let size : Name → ℕ = groups_size (AllLead.one_more group groups leads more) in
-      let rows : size i ≡ first_rows value atoms group = entered_size (i ∷ []) [] i group leads (groups_size more) in
-      (size,
-      group_path (i ∷ []) i (group ∷ groups) (AllLead.one_more group groups leads more) size (first_rows value atoms group) rows (refl, agrees.0, agrees.1) differ
-        (λ z apart stands. refl))
+      let rows : size i ≡ first_rows value atoms group = entered_size (i ∷ []) [] i group leads (groups_size more) in (
+        size,
+        group_path (i ∷ []) i (group ∷ groups) (AllLead.one_more group groups leads more) size (first_rows value atoms group) rows (refl, agrees.0, agrees.1) differ
+            (λ z apart stands. refl),
+      )
 
   -- ---- the whole chain
 
@@ -243,10 +244,11 @@ module _ (value : IxAtom → Value) (atoms : List IxAtom) (simple : (position : 
       → (size : Name → ℕ) × AllSized value atoms size (links_of ordering)
   chain_size free ordering no_factors differ agrees = (λ z. 0, AllSized.no_link)
   chain_size free ordering (between_vectors first rest i is leads) differ agrees =
-      let size : Name → ℕ = path_size value leads (λ z. 0) in
-      (size,
-      AllSized.one_more first rest (ends_sized size first i is (entered_size [] [] i rest leads (λ z. 0) ∙ sym agrees.0))
-        (vector_path [] i rest leads (λ z. 0) size agrees.1 differ (λ z stands. refl)))
+      let size : Name → ℕ = path_size value leads (λ z. 0) in (
+        size,
+        AllSized.one_more first rest (ends_sized size first i is (entered_size [] [] i rest leads (λ z. 0) ∙ sym agrees.0))
+            (vector_path [] i rest leads (λ z. 0) size agrees.1 differ (λ z stands. refl)),
+      )
   chain_size free ordering (in_groups i group others all) differ agrees =
       let front : times bytes_eq i (group_names all) ≡ 0 = free_never atoms (i ∷ []) (chain.Groups (group ∷ others)) i (in_groups i group others all) (front_among i) in
       groups_sized i group others all agrees (in_front i (group_names all) differ front)
@@ -272,7 +274,7 @@ unfolding times_in
 factor_sized value atoms size position none_left AllSized.no_link stands = absurd (omega (arith, stands))
 factor_sized value atoms size position all (AllSized.one_more l links has more) stands =
     by_case (cases_Bool (l.factor == position)) (factor_sized value atoms size position links more)
-      (subst (λ n. 0 < n) (sum_by-cons (λ k. one_if (k.factor == position)) l links) stands)
+    (subst (λ n. 0 < n) (sum_by-cons (λ k. one_if (k.factor == position)) l links) stands)
   where
     by_case : (l.factor == position ≡ true) ⊎ (l.factor == position ≡ false)
         → (0 < sum_by (λ k. one_if (k.factor == position)) links → HasSizes size (indices_at atoms position) (value_at value atoms position))

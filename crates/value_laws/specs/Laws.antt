@@ -1,5 +1,5 @@
 -- What the entries of sums, products, transposes and scalar products are.
-use Rattle.std.specs.Prelude.{◌≡◌, ℕ, pos, ◌*◌, ◌<◌, List, length, sum_by}
+use Rattle.std.specs.Prelude.{◌≡◌, ℕ, pos, ◌*◌, ◌<◌, length, sum_by}
 use Rattle.std.specs.List.{range_with_len}
 use Rattle.ring_words.specs.Word.{word}
 use Rattle.value_algebra.specs.declared.value.Value.{Value}

@@ -1,0 +1,12 @@
+use Rattle.expression_forms.proofs.Typings.{number_is, reference_is, sum_is, product_is, transposed_is, dot_is}
+use Rattle.expression_forms.proofs.typing_form_law.Goals as goal
+
+pub returns : goal.returns
+returns c = record {
+  number_is = number_is;
+  reference_is = reference_is;
+  sum_is = sum_is;
+  product_is = product_is;
+  transposed_is = transposed_is;
+  dot_is = dot_is;
+}

@@ -1,0 +1,6 @@
+mod Answers
+mod Atoms
+mod Chains
+mod Products
+mod Rules
+mod Terms

@@ -1,0 +1,3 @@
+pub mod AtomValues
+pub mod Fits
+pub mod Laws
