@@ -1373,7 +1373,7 @@ case(g, "ref_long", "proc main\n  var %s = 1;\n  var %s = 1;\nend\n" % ("a" * 64
 case(g, "ref_deep", "proc main\n  var a = %s1%s;\n  var b = %s1%s;\nend\n" % ("(" * 64, ")" * 64, "(" * 65, ")" * 65), [],
      "refused: line 3, byte %d: too deep" % (10 + 10 + 64 + 1 + 64 + 2 + 10 + 64))
 case(g, "ok_deep_64", "proc main\n  var a = %s1%s;\nend\n" % ("(" * 64, ")" * 64), [], "")
-case(g, "ref_ix", B.replace("-(K*points.x)", "ix (i) -K(i,j)*points.x(j)"), ps(), "refused: not yet")
+case(g, "worked_25_ix", B.replace("-(K*points.x)", "ix (i) -K(i,j)*points.x(j)"), ps(), nine)
 case(g, "ref_reduce", A.replace("reduce +", "reduce -"), ps(), "refused: line 16, token %d: syntax" % len(__import__("re").findall(r"[A-Za-z_]\w*|\d+(?:\.\d+)?|\.\*|->|[=!<>]=|\S", A.split("+;\nend")[0])))
 case(g, "ref_sign_in_product", "proc main\n  var a = 2*-3;\nend\n", [], "refused: line 2, token 7: syntax")
 

@@ -70,6 +70,7 @@ def words_of(data):
 def ending(text, turns):
     """How a program ends, and the words that this adds to the sum."""
     declarations, body = reference.Parser(reference.lex(text)).program()
+    reference.lower(body)
     types = reference.Types(declarations, body)
     sets = graph(types)
     try:

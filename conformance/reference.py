@@ -4,13 +4,17 @@
     python3 reference.py PROGRAM SETS.. [--turns N]
 
 Standard output, the note line and the status are those of `simit run` in the stage where
-every matrix is dense and neither `ix` nor host functions run.
+every matrix is dense and no host functions run.
+
+An index expression has the types of what it lowers to, and so its faults and its dense matrices; its value
+is the sum of its products, written out over all values of the summed indices.
 
 A system matrix of blocks high x wide over R x C elements is kept as one dense matrix of
 R*high rows and C*wide columns; a system vector as one list.  All entries are words 0..2^64-1.
 """
 import csv
 import io
+import itertools
 import math
 import operator
 import sys
@@ -201,6 +205,8 @@ def lex(src):
 
 class N:
     """A node: kind, line and whatever the kind needs."""
+    ix = None       # the index expression that a node was lowered from
+    rank = None     # how many indices a reference of an index expression had
 
     def __init__(self, kind, line, **more):
         self.kind = kind
@@ -516,34 +522,40 @@ class Parser:
         line = self.t().line
         self.need("ix")
         self.need("(")
+        free = []
         if not self.at(")"):
-            self.name()
+            free.append(self.name())
             if self.accept(","):
-                self.name()
+                free.append(self.name())
         self.need(")")
-        self.accept("-")
-        self.ixterm()
-        while self.accept("+") or self.accept("-"):
-            self.ixterm()
-        return N("ix", line)
+        terms = [self.ixterm(self.accept("-"))]
+        while self.at("+") or self.at("-"):
+            minus = self.accept("-")
+            if not minus:
+                self.need("+")
+            terms.append(self.ixterm(minus))
+        return N("ix", line, free=free, terms=terms)
 
-    def ixterm(self):
-        self.ixatom()
+    def ixterm(self, minus):
+        line = self.t().line
+        atoms = [self.ixatom()]
         while self.accept("*"):
-            self.ixatom()
+            atoms.append(self.ixatom())
+        return N("ixterm", line, minus=minus, atoms=atoms)
 
     def ixatom(self):
+        line = self.t().line
         if self.t().kind == "num":
-            self.num()
-            return
-        self.name()
+            return N("ixnum", line, text=self.num(), indices=[])
+        name, field, indices = self.name(), None, []
         if self.accept("."):
-            self.name()
+            field = self.name()
         if self.accept("("):
-            self.name()
+            indices.append(self.name())
             if self.accept(","):
-                self.name()
+                indices.append(self.name())
             self.need(")")
+        return N("ixref", line, name=name, field=field, indices=indices)
 
     def cond(self):
         parts = [self.conj()]
@@ -665,15 +677,190 @@ class Parser:
         return out
 
 
-def has_ix(body):
+# ------------------------------------------------------------------ index expressions
+
+def is_vector(atom):
+    return len(atom.indices) == 1
+
+
+def linked(factors, free):
+    """Each factor shares one summed index with the next."""
+    return all(len(set(a.indices) & set(b.indices) - set(free)) == 1 for a, b in zip(factors, factors[1:]))
+
+
+def groups_in_order(factors, free):
+    """The groups of these factors where they stand in the order of a chain, or None."""
+    if len(free) == 0:
+        if not factors:
+            return []
+        ends = len(factors) > 1 and is_vector(factors[0]) and is_vector(factors[-1])
+        return [factors] if ends and not any(map(is_vector, factors[1:-1])) and linked(factors, free) else None
+    if not factors:
+        return None
+    if len(free) == 2:
+        ends = free[0] in factors[0].indices and free[1] in factors[-1].indices
+        return [factors] if ends and not any(map(is_vector, factors)) and linked(factors, free) else None
+    groups, group = [], []
+    for a in factors:
+        group.append(a)
+        if is_vector(a):
+            groups.append(group)
+            group = []
+    if group:
+        return None
+    for g in groups:
+        if free[0] not in g[0].indices or not linked(g, free) or sum(a.indices.count(free[0]) for a in g) != 1:
+            return None
+    return groups
+
+
+def every_order(factors, free):
+    """The groups of a chain by trying each order of its factors, or None."""
+    for order in itertools.permutations(factors):
+        groups = groups_in_order(list(order), free)
+        if groups is not None:
+            return groups
+    return None
+
+
+def shared_indices(factors, free):
+    """The same by going from each factor to the one that shares its other index."""
+    left = list(factors)
+
+    def follow(atom):
+        """The factors from this one on, and the index at which they end."""
+        seq, index = [], free[0] if free else None
+        while True:
+            left.remove(atom)
+            seq.append(atom)
+            out = [x for x in atom.indices if x != index]
+            if not out or out[0] in free:
+                return seq, out[0] if out else None
+            index = out[0]
+            after = [a for a in left if index in a.indices]
+            if not after:
+                return seq, index
+            atom = after[0]
+
+    if not free:
+        if not factors:
+            return []
+        if not any(map(is_vector, factors)):
+            return None
+        seq, end = follow(next(a for a in factors if is_vector(a)))
+        return [seq] if end is None and not left else None
+    starts = [a for a in factors if free[0] in a.indices]
+    if len(free) == 2:
+        if len(starts) != 1:
+            return None
+        seq, end = follow(starts[0])
+        return [seq] if end == free[1] and not left else None
+    groups = []
+    for a in starts:
+        if a not in left:
+            return None
+        seq, end = follow(a)
+        if end is not None:
+            return None
+        groups.append(seq)
+    return groups if groups and not left else None
+
+
+def chain(free, term, way=None):
+    """The groups of a term in their order and in that of each group's first factor in the text; None where the term
+    isn't in chain form."""
+    factors = [a for a in term.atoms if a.indices]
+    names = [x for a in factors for x in a.indices]
+    if any(len(set(a.indices)) < len(a.indices) for a in factors) or len(set(free)) < len(free):
+        return None
+    if any(names.count(x) != 2 for x in names if x not in free):
+        return None
+    groups = (way or (every_order if len(factors) <= 6 else shared_indices))(factors, free)
+    if groups is None:
+        return None
+    if not free and groups and factors.index(groups[0][0]) > factors.index(groups[0][-1]):
+        groups[0].reverse()
+    return sorted(groups, key=lambda g: min(map(factors.index, g)))
+
+
+def made(atom):
+    if atom.kind == "ixnum":
+        return N("num", atom.line, text=atom.text)
+    atom.made = N("ref", atom.line, name=atom.name, args=[], field=atom.field, fargs=[], rank=len(atom.indices))
+    return atom.made
+
+
+def joined(kind, line, nodes):
+    """A product of these nodes, from the left."""
+    left = nodes[0]
+    for n in nodes[1:]:
+        left = N(kind, line, a=left, b=n)
+    return left
+
+
+def stepped(atom, index):
+    """A matrix that is entered at this index, and the index at which it is left."""
+    if atom.indices[0] == index:
+        return made(atom), atom.indices[1]
+    return N("tr", atom.line, a=made(atom)), atom.indices[0]
+
+
+def nested(group, index, line):
+    """The nested product of matrices and a last vector."""
+    if is_vector(group[0]):
+        return made(group[0])
+    matrix, index = stepped(group[0], index)
+    return N("mul", line, a=matrix, b=nested(group[1:], index, line))
+
+
+def lowered_term(free, term):
+    groups = chain(free, term)
+    factors = [made(a) for a in term.atoms if not a.indices]
+    if groups and len(free) == 0:
+        first, rest = groups[0][0], groups[0][1:]
+        factors.append(N("dot", term.line, a=made(first), b=nested(rest, first.indices[0], term.line)))
+    if len(free) == 1:
+        factors.append(joined("emul", term.line, [nested(g, free[0], term.line) for g in groups]))
+    if len(free) == 2:
+        matrices, index = [], free[0]
+        for a in groups[0]:
+            matrix, index = stepped(a, index)
+            matrices.append(matrix)
+        factors.append(joined("mul", term.line, matrices))
+    return joined("mul", term.line, factors)
+
+
+def lowered(ix):
+    left = None
+    for term in ix.terms:
+        value = lowered_term(ix.free, term)
+        if left is None:
+            left = N("neg", ix.line, a=value) if term.minus else value
+        else:
+            left = N("sub" if term.minus else "add", ix.line, a=left, b=value)
+    left.ix = ix
+    return left
+
+
+def index_statements(body):
+    """The statements with an index expression, in the order of the text."""
     for s in body:
         if s.kind in ("var", "assign") and s.right.kind == "ix":
-            return True
-        if s.kind in ("while", "for") and has_ix(s.body):
-            return True
-        if s.kind == "if" and (has_ix(s.yes) or has_ix(s.no)):
-            return True
-    return False
+            yield s
+        elif s.kind in ("while", "for"):
+            yield from index_statements(s.body)
+        elif s.kind == "if":
+            yield from index_statements(s.yes)
+            yield from index_statements(s.no)
+
+
+def lower(body):
+    """Puts what each index expression lowers to into its place."""
+    for s in index_statements(body):
+        if any(chain(s.right.free, t) is None for t in s.right.terms):
+            refuse(s.right.line, "not a chain")
+    for s in index_statements(body):
+        s.right = lowered(s.right)
 
 
 # ------------------------------------------------------------------ types
@@ -1137,6 +1324,7 @@ class Types:
                 b, s = fields[n.field]
                 n.t = ("V", n.name, b, s)
                 n.what = "field"
+                self.ranked(n)
                 return cost
             v = self.find(n.name)
             if v is None:
@@ -1145,6 +1333,7 @@ class Types:
                 refuse(n.line, SHAPE)
             n.t = v[1]
             n.what = "var"
+            self.ranked(n)
             return cost
         v = self.find(n.name)
         if v is None:
@@ -1177,6 +1366,10 @@ class Types:
         n.whole_block = b
         n.t = ("L", () if fidx else b, s)
         return cost + size(n.t[1])
+
+    def ranked(self, n):
+        if n.rank is not None and n.t[0] != "LVM"[n.rank]:
+            refuse(n.line, SHAPE)
 
     def e_block(self, n):
         cost = 0
@@ -1434,8 +1627,66 @@ class Run:
         b = t[3] if t[3] else (1, 1)
         return self.sets[t[1]].count * b[0], self.sets[t[2]].count * b[1]
 
+    # index expressions
+    def ranges(self, term):
+        """How many values each index of a term has: the pairs of an element and a component of its block."""
+        out = {}
+        for a in term.atoms:
+            if a.indices:
+                t = a.made.t
+                counts = self.sides(t) if t[0] == "M" else [self.sets[t[1]].count * size(t[2])]
+                for name, n in zip(a.indices, counts):
+                    assert out.setdefault(name, n) == n
+        return out
+
+    def atom(self, a):
+        if a.kind == "ixnum":
+            return int(a.text.replace(".", ""))
+        return self.vars[a.name] if a.field is None else self.sets[a.name].values[a.field]
+
+    def products(self, term, at):
+        """The sum over all values of the summed indices of the product of the atoms, the free indices being `at`."""
+        ranges = self.ranges(term)
+        values = [(a.indices, self.atom(a)) for a in term.atoms]
+        summed = [x for x in ranges if x not in at]
+        known = dict(at)
+
+        def total(depth, product):
+            for indices, v in ready[depth]:
+                for x in indices:
+                    v = v[known[x]]
+                product = product * v & MASK
+            if product == 0 or depth == len(summed):
+                return product
+            out = 0
+            for known[summed[depth]] in range(ranges[summed[depth]]):
+                out += total(depth + 1, product)
+            return out
+
+        ready = [[] for _ in range(len(summed) + 1)]
+        for indices, v in values:
+            ready[max([summed.index(x) + 1 for x in indices if x in summed], default=0)].append((indices, v))
+        return total(0, 1) & MASK
+
+    def sums(self, ix):
+        """The value of an index expression: at its free indices the sum of its terms."""
+        ranges = self.ranges(ix.terms[0])
+
+        def entry(at):
+            return sum((-1 if t.minus else 1) * self.products(t, at) for t in ix.terms) & MASK
+
+        if len(ix.free) == 0:
+            return entry({})
+        i = ix.free[0]
+        if len(ix.free) == 1:
+            return [entry({i: x}) for x in range(ranges[i])]
+        j = ix.free[1]
+        return [[entry({i: x, j: y}) for y in range(ranges[j])] for x in range(ranges[i])]
+
     # expressions of main
     def ev(self, n):
+        if n.ix is not None:
+            return self.sums(n.ix)
         k = n.kind
         if k == "num":
             return n.word
@@ -1699,8 +1950,7 @@ def whole(program, files, turns, stats=None):
     if len(raw) > 1048576:
         raise Ending(7, "limit: %s is over 1048576 bytes" % program)
     decls, body = Parser(lex(raw.decode("latin-1"))).program()
-    if has_ix(body):
-        raise Ending(2, "refused: not yet")
+    lower(body)
     types = Types(decls, body)
     if len(files) != len(types.set_order):
         raise Ending(2, "refused: %d files for %d sets" % (len(files), len(types.set_order)))
