@@ -1567,6 +1567,10 @@ case(g, "order_statements", X % "  points.x = points.x + points.x;\n  var a = 1;
 case(g, "order_write_after_trap", HEAD + "func f(s : Spring, p : (Point*2)) -> (x : vector[points](int(0)))\n  x(p(0)) = 5;\n  if s.k == 3\n    x(p(1)) = isqrt(0 - s.k, 0);\n    x(p(1)) = quot(1, 0, 0);\n  end\nend\nproc main\n  points.x = map f to springs reduce +;\nend\n", ps(),
      "trap at line 18, element 1: " + RN)
 
+# ---------------------------------------------------------------- index expressions
+import indices
+indices.programs(case, B, ps)
+
 if __name__ == "__main__":
     total = 0
     for g, ns in groups.items():

@@ -4,6 +4,7 @@ whole numbers, sums written out from the definitions.  Shares no code with refer
 number: int.  block vector {(r,): v}, block matrix {(r, c): v}.
 system vector {(i,) + block index: v}; system matrix {(i, j) + block index: v}.
 """
+import re
 from fractions import Fraction
 from math import floor
 
@@ -157,6 +158,121 @@ def put(into, place, block):
     else:
         for k, v in block.items():
             into[place + k] = wrap(into[place + k] + v)
+
+
+# index expressions, by matrix products.  Here a vector is {position: v} and a matrix {(row, column): v},
+# a position being (i,) + block index
+def plain(a):
+    if len(next(iter(a))) == 2:
+        return {((i,), (j,)): v for (i, j), v in a.items()}
+    return {((i, r), (j, c)): v for (i, j, r, c), v in a.items()}
+
+
+def blocks(a):
+    """A matrix as it was before `plain`."""
+    return {(p[0], q[0]) + p[1:] + q[1:]: v for (p, q), v in a.items()}
+
+
+def along(m, x):
+    out = {}
+    for (p, q), v in m.items():
+        out[p] = wrap(out.get(p, 0) + v * x[q])
+    return out
+
+
+def through(a, b):
+    rows = {}
+    for (q, t), v in b.items():
+        rows.setdefault(q, []).append((t, v))
+    out = {}
+    for (p, q), v in a.items():
+        for t, w in rows[q]:
+            out[p, t] = wrap(out.get((p, t), 0) + v * w)
+    return out
+
+
+def factors_of(text):
+    """The free indices of an index expression, and for each term its sign and its factors: (name, indices)."""
+    tokens = re.findall(r"[A-Za-z_][\w.]*|\d+(?:\.\d+)?|[-()*,+]", text)
+    assert tokens[0] == "ix"
+    free = tokens[2:tokens.index(")")]
+    rest, terms = tokens[tokens.index(")") + 1:], []
+    k = 0
+    while k < len(rest):
+        if rest[k] in "+-":
+            terms.append((rest[k], []))
+            k += 1
+        elif not terms:
+            terms.append(("+", []))
+        name, ends = rest[k], []
+        k += 1
+        if k < len(rest) and rest[k] == "(":
+            close = rest.index(")", k)
+            ends = [x for x in rest[k + 1:close] if x != ","]
+            k = close + 1
+        terms[-1][1].append((name, ends))
+        if k < len(rest) and rest[k] == "*":
+            k += 1
+    return [x for x in free if x != ","], terms
+
+
+def products(text, values):
+    """An index expression as sums of products of matrices and vectors: `values` has what each name stands for."""
+    free, terms = factors_of(text)
+    answer = None
+    for sign, factors in terms:
+        scalar = -1 if sign == "-" else 1
+        left = []
+        for name, ends in factors:
+            if ends:
+                left.append((ends, values[name]))
+            elif name[0].isdigit():
+                scalar *= int(name.replace(".", ""))
+            else:
+                scalar *= values[name]
+        t = one_term(free, left)
+        t = scal(wrap(scalar), t)
+        answer = t if answer is None else add(answer, t)
+    return answer
+
+
+def turned(matrix):
+    return {(q, p): v for (p, q), v in matrix.items()}
+
+
+def one_term(free, left):
+    """The product of one term's matrices and vectors: a vector takes up the matrix that shares its index, until none is left to."""
+    if not left:
+        return 1
+    if len(free) == 2:
+        (here, m), = [f for f in left if free[0] in f[0]]
+        left = [f for f in left if f[0] is not here]
+        at, m = (here[1], plain(m)) if here[0] == free[0] else (here[0], turned(plain(m)))
+        while at != free[1]:
+            (here, n), = [f for f in left if at in f[0]]
+            left = [f for f in left if f[0] is not here]
+            if here[0] == at:
+                at, m = here[1], through(m, plain(n))
+            else:
+                at, m = here[0], through(m, turned(plain(n)))
+        assert not left
+        return blocks(m)
+    vectors = [f for f in left if len(f[0]) == 1]
+    matrices = [f for f in left if len(f[0]) == 2]
+    first = None if free else vectors.pop(0)
+    goal = free[0] if free else first[0][0]
+    answer = None
+    for (at,), v in vectors:
+        while at != goal:
+            (here, m), = [f for f in matrices if at in f[0]]
+            matrices = [f for f in matrices if f[0] is not here]
+            if here[1] == at:
+                at, v = here[0], along(plain(m), v)
+            else:
+                at, v = here[1], along(turned(plain(m)), v)
+        answer = v if answer is None else emul(answer, v)
+    assert not matrices
+    return answer if free else dot(first[1], answer)
 
 
 def cell(v, d):
