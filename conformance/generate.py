@@ -4,7 +4,8 @@
     python3 generate.py SEED             prints one program's folder to /tmp/gen-SEED
     python3 generate.py --write N        writes work/programs/gen_000 .. for N seeds
     python3 generate.py --write N mat    writes work/programs/genm_000 .., with many system matrices
-    python3 generate.py --soak FROM TO [mat]   compares reference.py with the translation only
+    python3 generate.py --write N ix     writes work/programs/geni_000 .., with index expressions
+    python3 generate.py --soak FROM TO [mat|ix]   compares reference.py with the translation only
 
 Each program is made twice over: as text of the language, and as a Python text over the dictionary
 tensors of second.py.  Both are run and have to give the same status, output and note.
@@ -77,9 +78,11 @@ def par(e, level, r=None):
 
 
 class Gen:
-    def __init__(self, seed, mat=False):
+    def __init__(self, seed, kind=""):
         self.r = random.Random(seed)
-        self.mat = mat           # a program in which system matrices stand in front
+        self.ix = kind == "ix"   # a program of index expressions
+        self.mat = kind != ""    # a program in which system matrices stand in front
+        self.broken = []         # the lines of index expressions that aren't in chain form
         self.lines = []          # the program's text
         self.py = []             # the translation
         self.n = 0
@@ -729,8 +732,236 @@ class Gen:
                 return ("V", n, b, max(0, min(36, s + r.choice([0, 0, 0, 1, 3]))))
         return ("L", (), r.choice([0, 0, 0, 1, 2, 4, 8, 20]))
 
+    # -------------------------------------------------------------- index expressions
+    # A space is a set and the block of a vector over it: what an index ranges over.
+    def spaces(self):
+        return [(n, b) for n, st in self.sets.items() for b, _ in st["shape"].values()]
+
+    def vectors(self, space):
+        """References to vectors over a space: (text, python, scale)."""
+        return [(t, py, s) for t, _, py, s in self.leaves(("V",) + space)]
+
+    def steps(self, space):
+        """Matrices one of whose sides lies over a space: (name, whether it is turned, the other side, scale)."""
+        out = []
+        for name, t, kind, extra in self.visible():
+            if t[0] == "M":
+                rows, columns = (t[1], t[3][:1]), (t[2], t[3][1:])
+                if rows == space:
+                    out.append((name, False, columns, t[4]))
+                if columns == space:
+                    out.append((name, True, rows, t[4]))
+        return out
+
+    def entered(self, step, here, there):
+        """A matrix as a factor of the text, and in the translation."""
+        name, turned = step[:2]
+        if turned:
+            return (name, [there, here]), "strn(v_%s)" % name
+        return (name, [here, there]), "v_" + name
+
+    def fresh_index(self, term, space):
+        name = self.r.choice([x for x in "abcdefghijklmnop" if x not in term["ranges"]])
+        term["ranges"][name] = self.sets[space[0]]["n"] * len(bidx(space[1]))
+        return name
+
+    def group(self, term, space, here, depth):
+        """Matrices and a last vector from this index on: the translation; None where nothing leads to a vector."""
+        ways = self.steps(space)
+        have = self.vectors(space)
+        if ways and depth > 0 and (not have or self.r.random() < 0.65):
+            step = self.r.choice(ways)
+            there = self.fresh_index(term, step[2])
+            factor, py = self.entered(step, here, there)
+            term["factors"].append(factor)
+            term["scale"] += step[3]
+            rest = self.group(term, step[2], there, depth - 1)
+            return rest and "smv(%s, %s, second.vzero(M.S['%s']['n'], %r))" % (py, rest, space[0], space[1])
+        if not have:
+            return None
+        text, py, s = self.r.choice(have)
+        term["factors"].append((text, [here]))
+        term["scale"] += s
+        return py
+
+    def matrices(self, term, space, end, i, j):
+        """Matrices from one free index to the other: the translation."""
+        py, here, row = None, i, space
+        for k in range(self.r.choice([1, 1, 2, 2, 3])):
+            ways = self.steps(space)
+            last = [w for w in ways if w[2] == end]
+            stop = last and (k == 2 or self.r.random() < 0.5)
+            if not ways:
+                return None
+            step = self.r.choice(last if stop else ways)
+            there = j if stop else self.fresh_index(term, step[2])
+            factor, m = self.entered(step, here, there)
+            term["factors"].append(factor)
+            term["scale"] += step[3]
+            space = step[2]
+            block = row[1] + space[1]
+            py = m if py is None else "smm(%s, %s, second.mzero(M.S['%s']['n'], M.S['%s']['n'], %r))" % (py, m, row[0], space[0], block)
+            if stop:
+                return py
+            here = there
+        return None
+
+    def ixterm(self, form, s, free):
+        """A term of this form, and of this scale where one is asked: its text, translation and scale."""
+        r = self.r
+        term = {"factors": [], "scale": 0, "ranges": {}}
+        if form[0] == "L":
+            py = None
+            if r.random() < 0.85 and self.spaces():
+                space = r.choice(self.spaces())
+                have = self.vectors(space)
+                here = self.fresh_index(term, space)
+                text, first, fs = r.choice(have)
+                term["factors"].append((text, [here]))
+                term["scale"] += fs
+                py = self.group(term, space, here, 3)
+                if py is None:
+                    return None
+                py = "dot(%s, %s)" % (first, py)
+        elif form[0] == "V":
+            term["ranges"][free[0]] = self.sets[form[1]]["n"] * len(bidx(form[2]))
+            parts = [self.group(term, form[1:], free[0], 3) for _ in range(r.choice([1, 1, 1, 2, 2, 3]))]
+            if None in parts:
+                return None
+            py = parts[0]
+            for other in parts[1:]:
+                py = "emul(%s, %s)" % (py, other)
+        else:
+            row, column = (form[1], form[3][:1]), (form[2], form[3][1:])
+            for name, space in zip(free, (row, column)):
+                term["ranges"][name] = self.sets[space[0]]["n"] * len(bidx(space[1]))
+            py = self.matrices(term, row, column, *free)
+            if py is None:
+                return None
+        cost = 1
+        for n in term["ranges"].values():
+            cost *= max(n, 1)
+        left = (term["scale"] + r.choice([0, 0, 1, 2]) if s is None else s) - term["scale"]
+        term["scale"] += left
+        if cost > 20000 or left < 0 or term["scale"] > 36:
+            return None
+        scalars = []
+        for _ in range(r.choice([0, 0, 1, 2])):
+            have = [h for h in self.leaves(("L", ())) if h[3] <= left]
+            if have:
+                h = r.choice(have)
+                scalars.append((h[0], h[2]))
+                left -= h[3]
+        while left > 0 or r.random() < 0.3 or py is None and not scalars:
+            k = r.randint(0, min(left, 18)) if left <= 18 else 18
+            t = self.literal(k)
+            scalars.append((t[0], t[2]))
+            left -= k
+        c = "wrap(%s)" % "*".join(["1"] + ["(%s)" % x[1] for x in scalars])
+        term["factors"] += [(x[0], []) for x in scalars]
+        term["py"] = c if py is None else "scal(%s, %s)" % (c, py)
+        return term
+
+    def out_of_chain(self, term, free):
+        """Turns a term into one that isn't in chain form."""
+        r = self.r
+        factors = term["factors"]
+        summed = [x for x in term["ranges"] if x not in free]
+        with_summed = [k for k, (_, at) in enumerate(factors) if any(x in summed for x in at)]
+        matrices = [k for k, (_, at) in enumerate(factors) if len(at) == 2]
+        ways = ["cycle"]
+        ways += ["alone", "thrice", "drop"] if with_summed else []
+        ways += ["twice"] if matrices else []
+        ways += ["missing"] if free else []
+        way = r.choice(ways)
+        if way == "cycle":
+            factors += [("X", ["q", "r"]), ("X", r.choice([["q", "r"], ["r", "q"]]))]
+        elif way == "thrice":
+            factors.append(("x", [r.choice(summed)]))
+        elif way == "drop":
+            factors.pop(r.choice(with_summed))
+        elif way == "twice":
+            at = factors[r.choice(matrices)][1]
+            k = r.randrange(2)
+            at[k] = at[1 - k]
+        else:
+            places = [(at, k) for _, at in factors for k, x in enumerate(at) if x in (summed if way == "alone" else free)]
+            at, k = r.choice(places)
+            at[k] = "q"
+
+    def ixexpr(self, form, s):
+        """An index expression: its text with the lines that it takes, its translation, its scale; None where none was found."""
+        r = self.r
+        free = r.sample("ijkxyz", {"L": 0, "V": 1, "M": 2}[form[0]])
+        terms = []
+        for _ in range(r.choice([1, 1, 1, 2, 2, 3])):
+            for _ in range(8):
+                t = self.ixterm(form, s, free)
+                if t is not None:
+                    break
+            else:
+                return None
+            terms.append(t)
+            s = t["scale"]
+        text, py, bad = "", None, False
+        for k, t in enumerate(terms):
+            minus = r.random() < 0.35
+            if r.random() < 0.03:
+                self.out_of_chain(t, free)
+                bad = True
+            r.shuffle(t["factors"])
+            text += (" - " if minus else " + ") if k else ("-" if minus else "")
+            text += r.choice(["*", "*", " * ", "\n    *"]).join(n + ("(%s)" % ",".join(at) if at else "") for n, at in t["factors"])
+            if py is None:
+                py = "neg(%s)" % t["py"] if minus else t["py"]
+            else:
+                py = "%s(%s, %s)" % ("sub" if minus else "add", py, t["py"])
+        lead = r.choice([" ", " ", " ", "\n      "])
+        return lead + "ix (%s) " % r.choice([",", ", "]).join(free) + text, py, s, bad, lead != " "
+
+    def ixstmt(self, indent):
+        r = self.r
+        fields = [("V", n, b, s, "%s.%s" % (n, f), "M.S['%s']['f']['%s']" % (n, f))
+                  for n in self.order for f, (b, s) in self.sets[n]["shape"].items()]
+        old = [v[1] + (v[0], "v_" + v[0]) for v in self.visible() if v[2] == "var"]
+        mats = [v[1] for v in self.visible() if v[1][0] == "M"]
+        way = r.choice(["field", "field", "old", "scalar", "vector", "matrix", "matrix"])
+        pool = {"field": fields, "old": old}.get(way)
+        if pool:
+            t = r.choice(pool)
+            form, s, name, store = t[:-3], t[-3], t[-2], t[-1]
+        else:
+            if way == "matrix" and mats:
+                t, u = r.choice(mats), r.choice(mats)
+                form = r.choice([t[:-1], ("M", t[2], t[1], t[3][::-1]), ("M", t[1], t[1], t[3][:1] * 2), ("M", t[2], t[2], t[3][1:] * 2)])
+            elif way == "scalar" or not self.spaces():
+                form = ("L", ())
+            else:
+                form = ("V",) + r.choice(self.spaces())
+            s, name, store = None, None, None
+        got = self.ixexpr(form, s)
+        if got is None:
+            return False
+        text, py, s, bad, below = got
+        if name is None:
+            name = self.fresh("u")
+            store = "v_" + name
+            self.scopes[-1].append((name, form + (s,), "mat" if form[0] == "M" else "var", None))
+            name = "var " + name
+        lines = ("%s =%s;" % (name, text)).split("\n")
+        line = self.emit(indent, lines[0])
+        for more in lines[1:]:
+            self.emit(indent, more)
+        if bad:
+            self.broken.append(line + below)
+        self.pye(indent, "M.at(%d)" % line)
+        self.pye(indent, "%s = %s" % (store, py))
+        return True
+
     def mstmt(self, indent, depth):
         r = self.r
+        if self.ix and r.random() < 0.6 and self.ixstmt(indent):
+            return
         kinds = ["var", "var", "field", "field", "field", "assign", "map", "map"]
         if self.fns:
             kinds += ["varmap"]
@@ -856,9 +1087,11 @@ class Gen:
 
     def answer(self, turns=100000):
         """The answer by the translation."""
+        if self.broken:
+            return 2, "", "refused: line %d: not a chain" % min(self.broken)
         m = Machine(self.sets, turns)
         space = {"second": second, "compare": compare, "judge": judge}
-        for k in ("add", "sub", "neg", "scal", "emul", "dot", "resc", "quot", "isqrt", "lmv", "lmm", "ltr", "smv", "smm", "strn", "lit"):
+        for k in ("add", "sub", "neg", "scal", "emul", "dot", "resc", "quot", "isqrt", "lmv", "lmm", "ltr", "smv", "smm", "strn", "lit", "wrap"):
             space[k] = getattr(second, k)
         space["rscal"] = lambda x, c: second.scal(c, x)
         exec(compile("\n".join(self.py) + "\n", "translation", "exec"), space)
@@ -875,9 +1108,9 @@ class Gen:
         return 0, out, None
 
 
-def make(seed, where, mat=False):
+def make(seed, where, kind=""):
     """Makes one program and runs it both ways: both answers, the translation and the length."""
-    g = Gen(seed, mat)
+    g = Gen(seed, kind)
     text, tables, py = g.program()
     if os.path.isdir(where):
         shutil.rmtree(where)
@@ -906,8 +1139,9 @@ def make(seed, where, mat=False):
 def main():
     if sys.argv[1] == "--soak":
         stats = {}
+        kind = sys.argv[4] if len(sys.argv) > 4 else ""
         for seed in range(int(sys.argv[2]), int(sys.argv[3])):
-            got, want, py, n = make(seed, "/tmp/gen-soak-%s%s" % (sys.argv[2], len(sys.argv)), len(sys.argv) > 4)
+            got, want, py, n = make(seed, "/tmp/gen-soak-%s%s" % (sys.argv[2], kind), kind)
             if got != want:
                 print("DIFFERS seed", seed, got[0], got[2], "want", want[0], want[2])
                 stats["differs"] = stats.get("differs", 0) + 1
@@ -916,14 +1150,14 @@ def main():
         print(stats)
     elif sys.argv[1] == "--write":
         want_n = int(sys.argv[2])
-        mat = len(sys.argv) > 3
-        stem = "genm" if mat else "gen"
-        made, seed, traps = 0, 1000, 0
+        kind = sys.argv[3] if len(sys.argv) > 3 else ""
+        stem = "gen" + kind[:1]
+        made, seed, traps, refusals = 0, 1000, 0, 0
         while made < want_n:
             where = "%s/programs/%s_%03d" % (HERE, stem, made)
-            got, want, py, n = make(seed, where, mat)
+            got, want, py, n = make(seed, where, kind)
             main_ = py[py.index("def main"):]
-            if mat and main_.count("smv(") + main_.count("smm(") < 2:
+            if kind and main_.count("smv(") + main_.count("smm(") < 2:
                 seed += 1
                 continue
             assert got == want, (seed, got, want)
@@ -933,6 +1167,8 @@ def main():
                 if traps * 4 >= want_n:
                     continue
                 traps += 1
+            elif got[0] == 2 and refusals * 6 < want_n:
+                refusals += 1
             elif got[0] != 0:
                 continue
             if not 400 <= n <= 12000:
