@@ -329,6 +329,31 @@ def programs(case, B, ps):
          "  var P = ix (i,j) G(e,i)*G(e,j);\n  ns.y = ix (i) P(i,j)*ns.z(j);\nend\n", nodes,
          {**column("ns.z", st["ns.y"]), "ns.y": ["0"] * NODES})
 
+    # ------------------------------------------------------------ long terms, over one node and two links
+    def one_node(name, ix, bad=None):
+        r = random.Random(name)
+        st = {"ns." + f: {(0,) + x: r.randint(1, 9) for x in bidx(b)} for f, b in NODE_BLOCKS.items()}
+        st.update({"ls." + f: {(e,) + x: r.randint(1, 9) for e in range(2) for x in bidx(b)} for f, b in LINK_BLOCKS.items()})
+        # odd, so that long products don't end in 0
+        st["ns.z"], st["ns.y"], st["ls.k"] = {(0,): 7}, {(0,): -5}, {(0,): 3, (1,): -8}
+        st["K"] = {(0, 0): 3 - 8 + 2}
+        short = [("ns", text(st, "ns", NODE_BLOCKS, [[]])), ("ls", text(st, "ls", LINK_BLOCKS, [[0, 0], [0, 0]]))]
+        case("index", "ix_long_" + name, PRE + "  ns.z = %s;\nend\n" % ix, short,
+             bad or {"ns.z": [str(products(ix, st)[0,])]})
+
+    def shuffled(factors):
+        random.Random(9).shuffle(factors)
+        return "*".join(factors)
+
+    def ring(count):
+        return ["K(%s)" % ",".join(random.Random(k).sample(["a%d" % k, "a%d" % ((k + 1) % count)], 2)) for k in range(count)]
+
+    one_node("chain", "ix (a0) " + shuffled(ring(121)[:-1] + ["ns.y(a120)"]))
+    one_node("groups", "ix (i) " + shuffled(["ns.z(i)"] * 40 + ["K(i,b%d)*ns.y(b%d)" % (k, k) for k in range(40)]))
+    one_node("scalars", "ix (i) " + shuffled(["%d" % k for k in range(1, 100, 2)] + ["ns.z(i)"]))
+    one_node("sum", "ix (i) -ns.z(i)" + " + 3*K(i,j)*ns.y(j) - ns.y(i)*ns.z(i)" * 150)
+    one_node("cycle", "ix (i) " + shuffled(ring(60) + ["K(b,i)", "ns.z(b)"]), "refused: line %d: not a chain" % (first + 1))
+
     # ------------------------------------------------------------ not in chain form
     def refused(name, body, line, kind):
         """Lines are those of the body, from 1."""
@@ -386,6 +411,9 @@ def programs(case, B, ps):
     refused("chain_in_loops", "  while 1 == 2\n    for i in 0:2\n      var d = ix () ns.z(i)*ns.z(i);\n      d = ix () ns.z(i);\n    end\n  end\n", 4, NC)
     case("index", "ix_chain_before_function", PRE.replace("A(p(0),p(1)) = s.m", "A(p(0),p(1)) = nope") + "  ns.z = %s;\nend\n" % bad, [],
          "refused: line %d: not a chain" % (first + 1))
+    host = "extern func least(int(0), int(0)) -> int(0);\n"
+    case("index", "ix_with_host", host + PRE + "  ns.z = ix (i) ns.z(i);\nend\n", tables, "refused: line 1: unknown name")
+    case("index", "ix_chain_before_host", host + PRE + "  ns.z = %s;\nend\n" % bad, tables, "refused: line %d: not a chain" % (first + 2))
     case("index", "ix_chain_before_files", PRE + "  ns.z = ix (i) ns.z(i);\nend\n", [], "refused: 0 files for 2 sets")
 
     def syntax(name, before, rest):
