@@ -20,7 +20,7 @@ use Rattle.chain_forms.specs.Atoms.{Name, indices_of, indices_at}
 use Rattle.chain_forms.specs.ChainForm.{IsSimple, Beside, Leads, AllLead, links_of}
 use Rattle.chain_forms.specs.ChainForm.Leads.{last, further}
 use Rattle.chain_forms.specs.Lowering as lowering
-use Rattle.chain_forms.specs.Lowering.{factor, made, turned, used, used_at, nested, entrywise}
+use Rattle.chain_forms.specs.Lowering.{factor, made, turned, used, used_at, nested}
 use Rattle.expression_forms.specs.Meanings.{MeaningForms}
 use Rattle.expression_forms.specs.Typings.{TypingForms}
 use Rattle.index_meaning.specs.Agreement.{HasShape, first_rows, NextAgrees, LinksAgree, GroupsAgree, ChainAgrees}
@@ -82,22 +82,22 @@ nested_one : (line : ℕ) (e : tree.Expr) → nested line (e ∷ []) ≡ e
 unfolding nested
 nested_one line e = refl
 
-pub product_one : (line : ℕ) (e : tree.Expr) → lowering.product line (e ∷ []) ≡ e
+pub product_one : (line : ℕ) (e : tree.Expr) → lowering.product line false (e ∷ []) ≡ e
 unfolding lowering.product
 product_one line e = refl
 
 pub product_more : (line : ℕ) (e f : tree.Expr) (es : List tree.Expr)
-    → lowering.product line (e ∷ f ∷ es) ≡ expr.Product line (factor line false e ∷ map (factor line false) (f ∷ es))
+    → lowering.product line false (e ∷ f ∷ es) ≡ expr.Product line (factor line false e ∷ map (factor line false) (f ∷ es))
 unfolding lowering.product
 product_more line e f es = refl
 
-entrywise_one : (line : ℕ) (e : tree.Expr) → entrywise line (e ∷ []) ≡ e
-unfolding entrywise
+entrywise_one : (line : ℕ) (e : tree.Expr) → lowering.product line true (e ∷ []) ≡ e
+unfolding lowering.product
 entrywise_one line e = refl
 
 entrywise_more : (line : ℕ) (e f : tree.Expr) (es : List tree.Expr)
-    → entrywise line (e ∷ f ∷ es) ≡ expr.Product line (factor line false e ∷ map (factor line true) (f ∷ es))
-unfolding entrywise
+    → lowering.product line true (e ∷ f ∷ es) ≡ expr.Product line (factor line false e ∷ map (factor line true) (f ∷ es))
+unfolding lowering.product
 entrywise_more line e f es = refl
 
 product_rows : (l r : Value) → (product l r).rows ≡ l.rows
@@ -215,7 +215,7 @@ module _ (typing : TypingForms) (meanings : MeaningForms) (entries : EntryLaws) 
       )
 
   pub matrices_sound : (line : ℕ) (free : List Name) (e i : Name) (l : Link) (links : List Link) → Leads atoms free (e ∷ []) i (l ∷ links)
-      → Sound env scope 2 (lowering.product line (map (link_expr atoms) (l ∷ links))) (product_from (used_of l) (used_values (atom_value env scope) atoms links)) (LinksHold (l ∷ links))
+      → Sound env scope 2 (lowering.product line false (map (link_expr atoms) (l ∷ links))) (product_from (used_of l) (used_values (atom_value env scope) atoms links)) (LinksHold (l ∷ links))
   matrices_sound line free e k first links (last l i is) =
       subst (λ o. Sound env scope 2 o (used_of l) (LinksHold (l ∷ []))) (sym (product_one line (link_expr atoms l)))
       (with_fact env scope 2 (link_expr atoms l) (used_of l) (LinkShape l) (LinksHold (l ∷ [])) (λ shape. (AllShaped.another_link l [] shape AllShaped.no_link, (tt, tt))) (matrix_link l i e is))
@@ -229,7 +229,7 @@ module _ (typing : TypingForms) (meanings : MeaningForms) (entries : EntryLaws) 
       (product_from (used_of l) (used_values (atom_value env scope) atoms rest)) (LinkShape l) (matrix_link l i j is) (matrices_after free e j rest more (used_of l))))
     where
       several : (line : ℕ) (l : Link) (rest : List Link) (free : List Name) (e j : Name) → Leads atoms free (e ∷ []) j rest
-          → lowering.product line (map (link_expr atoms) (l ∷ rest)) ≡ expr.Product line (factor line false (link_expr atoms l) ∷ map (factor line false) (map (link_expr atoms) rest))
+          → lowering.product line false (map (link_expr atoms) (l ∷ rest)) ≡ expr.Product line (factor line false (link_expr atoms l) ∷ map (factor line false) (map (link_expr atoms) rest))
       several line l links free e k (last m j was) = product_more line (link_expr atoms l) (link_expr atoms m) []
       several line l links free e k (further m others j n was summed_too later) = product_more line (link_expr atoms l) (link_expr atoms m) (map (link_expr atoms) others)
 
@@ -265,7 +265,7 @@ module _ (typing : TypingForms) (meanings : MeaningForms) (entries : EntryLaws) 
   ChainHolds ordering = AllShaped (atom_value env scope) atoms (links_of ordering) × ChainAgrees (atom_value env scope) atoms ordering
 
   pub groups_sound : (line : ℕ) (i : Name) (group : List Link) (others : List (List Link)) → AllLead atoms (i ∷ []) i (group ∷ others)
-      → Sound env scope 1 (entrywise line (map (group_expr line) (group ∷ others)))
+      → Sound env scope 1 (lowering.product line true (map (group_expr line) (group ∷ others)))
       (entrywise_from (nested_of group) (map (group_value (atom_value env scope) atoms) others)) (ChainHolds (chain.Groups (group ∷ others)))
   groups_sound line i g gs (AllLead.one_more group groups leads more) = by_more groups more
     where
@@ -278,7 +278,7 @@ module _ (typing : TypingForms) (meanings : MeaningForms) (entries : EntryLaws) 
           subst (AllShaped (atom_value env scope) atoms) (sym (flat_map-cons (λ g. g) group groups)) (shaped_append group (flat_map (λ g. g) groups) first rest)
 
       by_more : (groups : List (List Link)) → AllLead atoms (i ∷ []) i groups
-          → Sound env scope 1 (entrywise line (map (group_expr line) (group ∷ groups))) (entrywise_from (nested_of group) (map (group_value (atom_value env scope) atoms) groups))
+          → Sound env scope 1 (lowering.product line true (map (group_expr line) (group ∷ groups))) (entrywise_from (nested_of group) (map (group_value (atom_value env scope) atoms) groups))
           (ChainHolds (chain.Groups (group ∷ groups)))
       by_more [] leading =
           subst (λ o. Sound env scope 1 o (nested_of group) (ChainHolds (chain.Groups (group ∷ [])))) (sym (entrywise_one line (group_expr line group)))

@@ -70,7 +70,7 @@ module _ (typing : TypingForms) (meanings : MeaningForms) (entries : EntryLaws) 
   -- ---- factors after the first, from left to right
 
   list_sound : (line r n : ℕ) (e : tree.Expr) (es : List tree.Expr) (v u : Value) (fact : Type 0) → Sound env scope r e v fact → (f : Factors env scope false r v es n u)
-      → Sound env scope n (lowering.product line (e ∷ es)) u (fact × Facts f)
+      → Sound env scope n (lowering.product line false (e ∷ es)) u (fact × Facts f)
   list_sound line r n e es v u fact sound (Factors.ended q w) =
       subst (λ o. Sound env scope q o w (fact × Unit {0})) (sym (product_one line e)) (with_fact env scope q e w fact (fact × Unit {0}) (λ holds. (holds, tt)) sound)
   list_sound line r n e all v u fact sound (Factors.another p s q m x w z f es other c more rest) =
@@ -106,7 +106,7 @@ module _ (typing : TypingForms) (meanings : MeaningForms) (entries : EntryLaws) 
       ScalarShapes.another_shape a some facts.0 (alone_holds some more (each (mul (word_of acc)) (atom_value env scope a)) facts.2)
 
   -- a product without factors has no type
-  empty_product : (line next : ℕ) (done : TypedExpr × ℕ) → expression env (lowering.product line []) next ≡ Ok done → ⊥
+  empty_product : (line next : ℕ) (done : TypedExpr × ℕ) → expression env (lowering.product line false []) next ≡ Ok done → ⊥
   unfolding lowering.product
   empty_product line next done is =
       nothing (sym (product_unfolds line next []) ∙ ap (λ s. s next) (sym (typing.product_is env line [])) ∙ is)
@@ -141,34 +141,34 @@ module _ (typing : TypingForms) (meanings : MeaningForms) (entries : EntryLaws) 
         (IsChained.one [] (chain.Between first rest) (lowering.dot line (map (link_expr atoms) (first ∷ rest))) _
         (between_sound typing meanings entries env scope fit atoms simple line first rest i is leads))
     chain_is line free ordering (in_groups i group others all) =
-        subst (λ es. IsChained (i ∷ []) (chain.Groups (group ∷ others)) (lowering.entrywise line es ∷ []) (chain_values (atom_value env scope) atoms (chain.Groups (group ∷ others))))
+        subst (λ es. IsChained (i ∷ []) (chain.Groups (group ∷ others)) (lowering.product line true es ∷ []) (chain_values (atom_value env scope) atoms (chain.Groups (group ∷ others))))
         (sym (groups_used line (i ∷ []) i (group ∷ others) all))
-        (IsChained.one (i ∷ []) (chain.Groups (group ∷ others)) (lowering.entrywise line (map (λ group. nested line (map (link_expr atoms) group)) (group ∷ others))) _
+        (IsChained.one (i ∷ []) (chain.Groups (group ∷ others)) (lowering.product line true (map (λ group. nested line (map (link_expr atoms) group)) (group ∷ others))) _
         (groups_sound typing meanings entries env scope fit atoms simple line i group others all))
     chain_is line free ordering (between_indices i j links apart leads) =
-        subst (λ es. IsChained (i ∷ j ∷ []) (chain.Matrices links) (lowering.product line es ∷ []) (chain_values (atom_value env scope) atoms (chain.Matrices links)))
+        subst (λ es. IsChained (i ∷ j ∷ []) (chain.Matrices links) (lowering.product line false es ∷ []) (chain_values (atom_value env scope) atoms (chain.Matrices links)))
         (sym (used_leading atoms (i ∷ j ∷ []) (j ∷ []) i links leads)) (by_leads links leads)
       where
         by_leads : (links : List Link) → Leads atoms (i ∷ j ∷ []) (j ∷ []) i links
-            → IsChained (i ∷ j ∷ []) (chain.Matrices links) (lowering.product line (map (link_expr atoms) links) ∷ []) (chain_values (atom_value env scope) atoms (chain.Matrices links))
+            → IsChained (i ∷ j ∷ []) (chain.Matrices links) (lowering.product line false (map (link_expr atoms) links) ∷ []) (chain_values (atom_value env scope) atoms (chain.Matrices links))
         by_leads links (last l k is) =
-            IsChained.one (i ∷ j ∷ []) (chain.Matrices (l ∷ [])) (lowering.product line (map (link_expr atoms) (l ∷ []))) _
+            IsChained.one (i ∷ j ∷ []) (chain.Matrices (l ∷ [])) (lowering.product line false (map (link_expr atoms) (l ∷ []))) _
             (matrices_sound typing meanings entries env scope fit atoms simple line (i ∷ j ∷ []) j i l [] (last l k is))
         by_leads links (further l rest k m is summed more) =
-            IsChained.one (i ∷ j ∷ []) (chain.Matrices (l ∷ rest)) (lowering.product line (map (link_expr atoms) (l ∷ rest))) _
+            IsChained.one (i ∷ j ∷ []) (chain.Matrices (l ∷ rest)) (lowering.product line false (map (link_expr atoms) (l ∷ rest))) _
             (matrices_sound typing meanings entries env scope fit atoms simple line (i ∷ j ∷ []) j i l rest (further l rest k m is summed more))
 
     -- ---- scalars and a chain
 
     joined_sound : (line : ℕ) (free : List Name) (ordering : Chain) (some : List IxAtom) → AreScalars some → (es : List tree.Expr) (vs : List Value) → IsChained free ordering es vs
-        → Sound env scope (length free) (lowering.product line (map made some ++ es)) (product_of_all (map (atom_value env scope) some ++ vs)) (ScalarShapes (atom_value env scope) some × Holds ordering)
+        → Sound env scope (length free) (lowering.product line false (map made some ++ es)) (product_of_all (map (atom_value env scope) some ++ vs)) (ScalarShapes (atom_value env scope) some × Holds ordering)
     joined_sound line free ordering none_left AreScalars.no_scalar no_es no_vs IsChained.nothing = λ next done is. absurd (empty_product line next done is)
     joined_sound line free ordering all (AreScalars.another_scalar a some is more) no_es no_vs IsChained.nothing =
-        subst (λ es. Sound env scope 0 (lowering.product line (made a ∷ es)) (product_of_all (atom_value env scope a ∷ map (atom_value env scope) some ++ []))
+        subst (λ es. Sound env scope 0 (lowering.product line false (made a ∷ es)) (product_of_all (atom_value env scope a ∷ map (atom_value env scope) some ++ []))
         (ScalarShapes (atom_value env scope) (a ∷ some) × Holds chain.Empty)) (sym (append-nil (map made some)))
-        (subst (λ vs. Sound env scope 0 (lowering.product line (made a ∷ map made some)) (scaled_from (atom_value env scope a) vs)
+        (subst (λ vs. Sound env scope 0 (lowering.product line false (made a ∷ map made some)) (scaled_from (atom_value env scope a) vs)
         (ScalarShapes (atom_value env scope) (a ∷ some) × Holds chain.Empty)) (sym (append-nil (map (atom_value env scope) some)))
-        (with_fact env scope 0 (lowering.product line (made a ∷ map made some)) (scaled_from (atom_value env scope a) (map (atom_value env scope) some))
+        (with_fact env scope 0 (lowering.product line false (made a ∷ map made some)) (scaled_from (atom_value env scope a) (map (atom_value env scope) some))
         (HasShape [] (atom_value env scope a) × Facts (alone some more (atom_value env scope a))) (ScalarShapes (atom_value env scope) (a ∷ some) × Holds chain.Empty)
         (λ facts. (ScalarShapes.another_shape a some facts.0 (alone_holds some more (atom_value env scope a) facts.1), (AllShaped.no_link, tt)))
         (list_sound line 0 0 (made a) (map made some) (atom_value env scope a) (scaled_from (atom_value env scope a) (map (atom_value env scope) some)) (HasShape [] (atom_value env scope a))
@@ -177,7 +177,7 @@ module _ (typing : TypingForms) (meanings : MeaningForms) (entries : EntryLaws) 
         subst (λ o. Sound env scope (length free) o v (ScalarShapes (atom_value env scope) [] × Holds ordering)) (sym (product_one line c))
         (with_fact env scope (length free) c v (Holds ordering) (ScalarShapes (atom_value env scope) [] × Holds ordering) (λ holds. (ScalarShapes.no_shape, holds)) sound)
     joined_sound line names order all (AreScalars.another_scalar a some is more) es vs (IsChained.one free ordering c v sound) =
-        with_fact env scope (length free) (lowering.product line (made a ∷ map made some ++ c ∷ [])) (scaled_from (atom_value env scope a) (map (atom_value env scope) some ++ v ∷ []))
+        with_fact env scope (length free) (lowering.product line false (made a ∷ map made some ++ c ∷ [])) (scaled_from (atom_value env scope a) (map (atom_value env scope) some ++ v ∷ []))
         (HasShape [] (atom_value env scope a) × Facts (with_last some more (length free) c v (Holds ordering) sound (atom_value env scope a)))
         (ScalarShapes (atom_value env scope) (a ∷ some) × Holds ordering)
         (λ facts. let later = last_holds some more (length free) c v (Holds ordering) sound (atom_value env scope a) facts.1 in
