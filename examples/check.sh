@@ -1,7 +1,8 @@
 #!/bin/sh
 # Runs the built program on every model here and compares what it prints with the file `expected` beside it, on one
 # command line for each status that a user can bring about, and on the refused programs and tables that docs/formats.md
-# shows.
+# shows. What is expected is computed again, in Python, by `expected.py` beside it; where `truth.py` stands there, it says how far
+# that is from the real numbers, and fails where it is further than the model's page says.
 # Usage: sh examples/check.sh [PROGRAM]; without one, the program that `rt ci` built. The first that fails ends it.
 set -eu
 here=$(cd "$(dirname "$0")" && pwd)
@@ -34,6 +35,10 @@ call() {
 for words in "$here"/*/words; do
     model=$(dirname "$words")
     cd "$model"
+    PYTHONPATH=$here python3 expected.py >"$work/out"
+    : >"$work/note"
+    compare "what is expected of $(basename "$model")" 0 0 expected "$work/nothing"
+    [ ! -f truth.py ] || python3 truth.py
     # The words of a command hold no blanks.
     # shellcheck disable=SC2046
     call $(cat words)
