@@ -26,19 +26,20 @@ def dot(a, b):
 
 
 x = [f * weight["moved"] for f, weight in zip(free, weights)]
-r = [f * 1000 * weight["load"] - s for f, weight, s in zip(free, weights, forces(x))]
-q, rr = r, dot(r, r)
-for _ in range(20):
-    w = forces(q)
-    d = dot(q, w)
-    if rr > 0 and d > 0:
-        a = rr * BILLION // d
-        x = [u + a * v // BILLION for u, v in zip(x, q)]
-        r = [u - a * v // BILLION for u, v in zip(r, w)]
-        t = dot(r, r)
-        c = t * BILLION // rr
-        q = [u + c * v // BILLION for u, v in zip(r, q)]
-        rr = t
+for _ in range(2):
+    r = [f * 1000 * weight["load"] - s for f, weight, s in zip(free, weights, forces(x))]
+    q, rr = r, dot(r, r)
+    for _ in range(20):
+        w = forces(q)
+        d = dot(q, w)
+        if rr > 0 and d > 0:
+            a = rr * BILLION // d
+            x = [u + a * v // BILLION for u, v in zip(x, q)]
+            r = [u - a * v // BILLION for u, v in zip(r, w)]
+            t = dot(r, r)
+            c = t * BILLION // rr
+            q = [u + c * v // BILLION for u, v in zip(r, q)]
+            rr = t
 for weight, moved in zip(weights, x):
     weight["moved"] = moved
 for spring in springs:

@@ -3,7 +3,7 @@
 import csv
 from fractions import Fraction
 
-LARGEST = Fraction(1, 10**5)  # millimetres
+LARGEST = Fraction(2, 10**6)  # millimetres
 
 with open("expected") as text:
     first, second = text.read().split("set springs\n")

@@ -30,17 +30,18 @@ def more(a, factor, b):
 
 
 v = [node["voltage"] for node in nodes]
-r = [-f * i for f, i in zip(free, flow(v))]
-q, rr = r, dot(r, r)
-for _ in range(20):
-    w = [f * i for f, i in zip(free, flow(q))]
-    d = dot(q, w)
-    if rr > 0 and d > 0:
-        a = rr * BILLION // d
-        v = more(v, a, q)
-        r = [u - a * i // BILLION for u, i in zip(r, w)]
-        t = dot(r, r)
-        q, rr = more(r, t * BILLION // rr, q), t
+for _ in range(2):
+    r = [-f * i for f, i in zip(free, flow(v))]
+    q, rr = r, dot(r, r)
+    for _ in range(20):
+        w = [f * i for f, i in zip(free, flow(q))]
+        d = dot(q, w)
+        if rr > 0 and d > 0:
+            a = rr * BILLION // d
+            v = more(v, a, q)
+            r = [u - a * i // BILLION for u, i in zip(r, w)]
+            t = dot(r, r)
+            q, rr = more(r, t * BILLION // rr, q), t
 for node, voltage in zip(nodes, v):
     node["voltage"], node["out"] = voltage, 0
 for resistor in resistors:

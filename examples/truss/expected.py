@@ -48,9 +48,8 @@ def scaled(factor, vector):
     return [factor * v // BILLION for v in vector]
 
 
-def solved(bars, free, load, x):
-    """Conjugate gradients."""
-    x = [f * v for f, v in zip(free, x)]
+def conjugate_gradients(bars, free, load, x):
+    """Better displacements than x."""
     r = [f * (b - w) for f, b, w in zip(free, load, times(bars, [1] * len(x), x))]
     q, rr = r, dot(r, r)
     for _ in range(16):
@@ -76,7 +75,10 @@ def flat(joints, name):
 joints, bars = read("joints.csv", **JOINTS), read("bars.csv", **BARS)
 for bar in bars:
     shape(bar, joints)
-moved = solved(bars, flat(joints, "free"), flat(joints, "load"), flat(joints, "moved"))
+free, load = flat(joints, "free"), flat(joints, "load")
+moved = [f * v for f, v in zip(free, flat(joints, "moved"))]
+for _ in range(2):
+    moved = conjugate_gradients(bars, free, load, moved)
 for number, joint in enumerate(joints):
     joint["moved.0"], joint["moved.1"] = moved[2 * number], moved[2 * number + 1]
 for bar in bars:

@@ -3,7 +3,7 @@
 import csv
 from math import hypot
 
-LARGEST = 0.001  # mils
+LARGEST = 0.003  # mils
 
 
 def solve(a, b):
