@@ -1,3 +1,5 @@
 pub mod Arguments
 pub mod Commands
 pub mod Form
+pub mod Parsing
+pub mod Verbs

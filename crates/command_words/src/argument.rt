@@ -7,10 +7,10 @@ ghost use Rattle.command_words.specs.declared.command.WordsFault.TheVariants.{Me
 use crate::WordsFault;
 use crate::flag::Flag;
 use crate::given::Given;
-use crate::option::{option_word, text_of, with_value};
+use crate::option::{option_word, pushed, text_of, with_value};
 use std::alloc::Global;
+use vocabulary::L;
 use vocabulary::marks::MINUS;
-use vocabulary::{L, Text};
 
 /// Whether the word has two bytes or more and begins with a minus.
 fn is_dashed(word: &str) -> bool
@@ -24,28 +24,15 @@ fn is_dashed(word: &str) -> bool
 
 /// What is given with one positional word more.
 fn with_word(alloc: Global, word: &str, given: Given) -> Result<Given, WordsFault>
-    ensures { Answers Memory (Ok (spec.with_word word.now given.first given)) result }
+    ensures { Answers Memory (Ok (spec.with_word word.now given)) result }
 {
     let word = text_of(alloc, word)?;
-    if given.first.is_none() {
-        return Ok(Given {
-            first: Some(word),
+    match pushed(given.positionals, word) {
+        Ok(positionals) => Ok(Given {
+            positionals,
             ..given
-        });
-    }
-    match push(given.others, word) {
-        Ok(others) => Ok(Given { others, ..given }),
+        }),
         Err(fault) => Err(fault),
-    }
-}
-
-/// The list with one text more.
-fn push(mut list: L<Text>, text: Text) -> Result<L<Text>, WordsFault>
-    ensures { Answers Memory (Ok (list ++ text ∷ [])) result }
-{
-    match list.push(text) {
-        Ok(()) => Ok(list),
-        Err(_) => Err(WordsFault::Memory),
     }
 }
 
@@ -64,7 +51,7 @@ fn word_before_end(
             return Err(WordsFault::Refused);
         }
         let value = text_of(alloc, word)?;
-        return Ok(with_value(given, flag, value));
+        return with_value(given, flag, value);
     }
     if word == "--" {
         Ok(Given {
@@ -98,14 +85,10 @@ pub(crate) fn arguments(alloc: Global, words: &[String]) -> Result<Given, WordsF
     ensures { Answers Memory (spec.arguments (map string_bytes words.now)) result }
 {
     let mut given = Given {
-        workers: None,
-        turns: None,
-        words: None,
-        only: None,
+        settings: L::empty(alloc),
         due: None,
         ended: false,
-        first: None,
-        others: L::empty(alloc),
+        positionals: L::empty(alloc),
     };
     for word in words {
         given = with_argument(alloc, word.as_str(), given)?;

@@ -1,11 +1,9 @@
-//! The numbers of options, and their ranges.
+//! The numbers of options and of jobs, and their ranges.
 ghost use Rattle.std.specs.Prelude.{◌≡◌, ◌≤◌, ◌^◌, MatchOption, true};
 ghost use Rattle.std.specs.List.{list_all};
 ghost use Rattle.std.specs.Str.Parse.{digits_value};
-ghost use Rattle.command_words.specs.Commands as spec;
-
-use crate::WordsFault;
-use vocabulary::Text;
+ghost use Rattle.command_words.specs.Parsing.{IsSmall};
+ghost use Rattle.command_words.specs.Verbs as spec;
 
 /// The most workers.
 pub const MOST_WORKERS: u32 = 64;
@@ -24,9 +22,6 @@ pub const MOST_HELD_WORDS: u32 = 16_777_216;
 
 /// The largest seed of a made job.
 pub const MOST_SEED: u32 = u32::MAX;
-
-/// The most points of a made job.
-pub const MOST_POINTS: u32 = 524_288;
 
 /// Whether the byte is a digit.
 fn is_digit(byte: u8) -> bool
@@ -61,31 +56,27 @@ fn value_of(digits: &str) -> Option<u32>
     }
 }
 
-/// The number that the text writes, where it is 1 to 10 digits and lies in the range.
-#[tactic(auto, unfolding(crate::specs::Commands::number))]
-pub(crate) fn number(text: &Text, low: u32, high: u32) -> Result<u32, WordsFault>
-    ensures { result ≡ spec.number text.now low high }
+/// Whether the text is 1 to 10 digits of a number in the range.
+#[tactic(auto, unfolding(crate::specs::Verbs::is_number_in))]
+pub(crate) fn is_number_in(low: u32, high: u32, text: &str) -> bool
+    ensures { result ≡ spec.is_number_in low high text.now }
 {
-    if !is_number(text.as_str()) {
-        return Err(WordsFault::Refused);
+    if !is_number(text) {
+        return false;
     }
-    match value_of(text.as_str()) {
-        Some(value) if low <= value && value <= high => Ok(value),
-        _ => Err(WordsFault::Refused),
+    match value_of(text) {
+        Some(value) => low <= value && value <= high,
+        None => false,
     }
 }
 
-/// The number of an option, or another where it was left out.
-pub(crate) fn number_or(
-    default: u32,
-    text: &Option<Text>,
-    low: u32,
-    high: u32,
-) -> Result<u32, WordsFault>
-    ensures { result ≡ spec.number_or default text.now low high }
+/// The number that digits of a `u32` write.
+pub(crate) fn number_of(digits: &str) -> u32
+    requires { IsSmall digits.now }
+    ensures { result ≡ digits_value 10 digits.now }
 {
-    match text {
-        None => Ok(default),
-        Some(text) => number(text, low, high),
+    match value_of(digits) {
+        Some(value) => value,
+        None => unreachable!(),
     }
 }

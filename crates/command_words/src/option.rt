@@ -1,14 +1,14 @@
 //! Words that give options.
-ghost use Rattle.std.specs.Prelude.{◌≡◌, Ok, is_some};
+ghost use Rattle.std.specs.Prelude.{◌≡◌, ◌∷◌, [], ◌++◌, Ok};
 ghost use Rattle.vocabulary.specs.Answers.{Answers};
 ghost use Rattle.command_words.specs.Arguments as spec;
 ghost use Rattle.command_words.specs.declared.command.WordsFault.TheVariants.{Memory};
 
 use crate::WordsFault;
-use crate::flag::{Flag, flag_named};
-use crate::given::Given;
+use crate::flag::{Flag, flag_named, is_flag};
+use crate::given::{Given, Setting};
 use std::alloc::Global;
-use vocabulary::Text;
+use vocabulary::{L, Text};
 
 /// A text of the word.
 pub(crate) fn text_of(alloc: Global, word: &str) -> Result<Text, WordsFault>
@@ -20,44 +20,34 @@ pub(crate) fn text_of(alloc: Global, word: &str) -> Result<Text, WordsFault>
     }
 }
 
-/// Whether the option has a value.
-fn has_value(given: &Given, flag: Flag) -> bool
-    ensures { result ≡ is_some (spec.value_of flag given.now) }
+/// The list with one item more.
+pub(crate) fn pushed<T: Drop>(mut list: L<T>, item: T) -> Result<L<T>, WordsFault>
+    ensures { Answers Memory (Ok (list ++ item ∷ [])) result }
 {
-    match flag {
-        Flag::Workers => given.workers.is_some(),
-        Flag::Turns => given.turns.is_some(),
-        Flag::Words => given.words.is_some(),
-        Flag::Only => given.only.is_some(),
+    match list.push(item) {
+        Ok(()) => Ok(list),
+        Err(_) => Err(WordsFault::Memory),
     }
 }
 
-/// What is given with a value of the option, which has none yet.
-pub(crate) fn with_value(given: Given, flag: Flag, value: Text) -> Given
-    ensures { result ≡ spec.with_value flag value given }
+/// Whether the option is among those that were given.
+fn is_given(flag: Flag, settings: &[Setting]) -> bool
+    ensures { result ≡ spec.is_given flag settings.now }
 {
-    let value = Some(value);
-    match flag {
-        Flag::Workers => Given {
-            workers: value,
+    settings.iter().any(|setting| is_flag(setting.flag, flag))
+}
+
+/// What is given with a value of the option, which has none yet.
+pub(crate) fn with_value(given: Given, flag: Flag, value: Text) -> Result<Given, WordsFault>
+    ensures { Answers Memory (Ok (spec.with_value flag value given)) result }
+{
+    match pushed(given.settings, Setting { flag, value }) {
+        Ok(settings) => Ok(Given {
+            settings,
             due: None,
             ..given
-        },
-        Flag::Turns => Given {
-            turns: value,
-            due: None,
-            ..given
-        },
-        Flag::Words => Given {
-            words: value,
-            due: None,
-            ..given
-        },
-        Flag::Only => Given {
-            only: value,
-            due: None,
-            ..given
-        },
+        }),
+        Err(fault) => Err(fault),
     }
 }
 
@@ -71,9 +61,9 @@ fn option_with(
     ensures { Answers Memory (spec.option_with flag value.now given) result }
 {
     match flag {
-        Some(flag) if !has_value(&given, flag) && !value.is_empty() => {
+        Some(flag) if !is_given(flag, given.settings.items()) && !value.is_empty() => {
             let value = text_of(alloc, value)?;
-            Ok(with_value(given, flag, value))
+            with_value(given, flag, value)
         }
         _ => Err(WordsFault::Refused),
     }
@@ -84,7 +74,7 @@ fn option_before(flag: Option<Flag>, given: Given) -> Result<Given, WordsFault>
     ensures { result ≡ spec.option_before flag given }
 {
     match flag {
-        Some(flag) if !has_value(&given, flag) => Ok(Given {
+        Some(flag) if !is_given(flag, given.settings.items()) => Ok(Given {
             due: Some(flag),
             ..given
         }),

@@ -1,13 +1,20 @@
 ghost use Rattle.std.specs.Prelude.{◌≡◌, map, string_bytes};
 ghost use Rattle.vocabulary.specs.Answers.{Answers};
-ghost use Rattle.command_words.specs.Commands.{command_of, words_of};
+ghost use Rattle.command_words.specs.Arguments.{value_of};
+ghost use Rattle.command_words.specs.Commands.{stated, words_of};
 ghost use Rattle.command_words.specs.Form.{FormLaw};
+ghost use Rattle.command_words.specs.Parsing.{IsAccepted};
 ghost use Rattle.command_words.specs.declared.command.WordsFault.TheVariants.{Memory};
 
 use crate::argument::arguments;
+use crate::found::command_in;
 use crate::given::Given;
-use crate::shapes::{make_of, plain_of, plan_of, run_of};
+use crate::judging::judged;
+use crate::layout::laid_out;
+use crate::parser::command_for;
+use crate::verb::Verb;
 use crate::{Words, WordsFault};
+use clap::error::ErrorKind;
 use std::alloc::Global;
 
 /// The command that the words state, or that they are refused. Whatever words give options and positional words, those
@@ -17,38 +24,40 @@ pub fn read(alloc: Global, words: &[String]) -> Result<Words, WordsFault>
     ensures value { Answers Memory (words_of (map string_bytes words.now)) result }
     ensures form { FormLaw }
 {
-    command_in(alloc, words)
+    read_words(alloc, words)
 }
 
-/// The command of all words.
-fn command_in(alloc: Global, words: &[String]) -> Result<Words, WordsFault>
+/// The command of all words: what is to be refused is refused first.
+#[tactic(auto, unfolding(crate::specs::Commands::command_of))]
+fn read_words(alloc: Global, words: &[String]) -> Result<Words, WordsFault>
     ensures { Answers Memory (words_of (map string_bytes words.now)) result }
 {
     match words {
-        [verb, words @ ..] => {
+        [word, words @ ..] => {
             let given = arguments(alloc, words)?;
-            command_of(verb.as_str(), given)
+            let verb = judged(word.as_str(), &given)?;
+            parsed(alloc, verb, &given)
         }
         [] => Err(WordsFault::Refused),
     }
 }
 
-/// The command of a first word.
-#[tactic(auto, unfolding(crate::specs::Commands::command_of))]
-fn command_of(verb: &str, given: Given) -> Result<Words, WordsFault>
-    ensures { result ≡ command_of verb.now given }
+/// The command that `clap` reads in the one form of what is given, where it takes all of it.
+fn parsed(alloc: Global, verb: Verb, given: &Given) -> Result<Words, WordsFault>
+    requires { IsAccepted verb given.now }
+    ensures { Answers Memory (stated verb (value_of given.now.settings) given.now.positionals) result }
 {
-    if given.due.is_some() {
-        Err(WordsFault::Refused)
-    } else if verb == "run" {
-        run_of(given)
-    } else if verb == "plan" {
-        plan_of(given)
-    } else if verb == "plain" {
-        plain_of(given)
-    } else if verb == "make" {
-        make_of(given)
-    } else {
-        Err(WordsFault::Refused)
+    let Ok(form) = laid_out(alloc, verb, given) else {
+        return Err(WordsFault::Memory);
+    };
+    let Ok(command) = command_for(alloc, verb) else {
+        return Err(WordsFault::Memory);
+    };
+    match command.try_get_matches_from(form.as_slice()) {
+        Ok(matches) => command_in(alloc, verb, &matches),
+        Err(error) => match error.kind() {
+            ErrorKind::OutOfMemory => Err(WordsFault::Memory),
+            _ => unreachable!(),
+        },
     }
 }
