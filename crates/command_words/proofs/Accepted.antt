@@ -2,7 +2,6 @@
 use Rattle.std.proofs.Common.{◌≡◌, ap, sym, subst, ◌&&◌, ◌^◌, ◌<◌, ◌≤◌, length, map, slice_index_or, Bor, Bool, true, false, true≢false, cond, List, [], ◌∷◌, refl, ◌∙◌, arith, Option, None, Some, Ok, Err, IfSome, Result, is_ok, is_some, find, option_map, if◌then◌else◌}
 use Rattle.std.specs.List.{list_all}
 use Rattle.std.specs.Result.{result_unwrap_or}
-use Rattle.std.specs.Str.Parse.{digits_value}
 use Rattle.command_words.specs.Arguments.{Text, arguments, is_flag, value_of}
 use Rattle.command_words.specs.Commands.{are_job_words, are_positionals, is_setting, judged, judged_as}
 use Rattle.command_words.specs.Parsing.{AreValues, IsAccepted, IsSmall, takes_number}

@@ -1,5 +1,5 @@
 -- The form states what was given.
-use Rattle.std.proofs.Common.{◌≡◌, ◌∙◌, ap, sym, subst, ◌==◌, ◌++◌, ℕ, true, false, List, [], ◌∷◌, length, map, refl, append_assoc, append-nil, Option, None, Some, is_some, if◌then◌else◌, arith}
+use Rattle.std.proofs.Common.{◌≡◌, ◌∙◌, ap, sym, ◌==◌, ◌++◌, ℕ, true, false, List, [], ◌∷◌, length, map, refl, append_assoc, append-nil, Option, None, Some, is_some, if◌then◌else◌, arith}
 use Rattle.std.specs.Prelude.{Result, Ok, Err, codes}
 use Rattle.vocabulary.specs.Answers.{◌>>=◌, fold_result}
 use Rattle.command_words.specs.Arguments.{Text, flag_named, is_dashed, is_given, option_word, word_before_end, with_argument, nothing_given, arguments, value_of}

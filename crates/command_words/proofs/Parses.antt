@@ -1,8 +1,8 @@
 -- Each command takes the one form of what it is given, and finds its rows.
-use Rattle.std.proofs.Common.{◌≡◌, ◌∙◌, ap, sym, ◌&&◌, ◌∷◌, Bool, true, false, true≢false, List, [], refl, Option, None, Some, fold, is_some, cond}
+use Rattle.std.proofs.Common.{◌≡◌, ◌∙◌, ap, sym, ◌&&◌, ◌∷◌, Bool, true, false, true≢false, List, [], refl, Some, fold, is_some, cond}
 use Rattle.std.specs.Prelude.{⊤}
 use Rattle.std.specs.List.{list_all}
-use Rattle.clap.specs.Simple.{App, Shape, built, entered, is_simple, matches_of}
+use Rattle.clap.specs.Simple.{Shape, built, entered, is_simple, matches_of}
 use Rattle.clap.specs.Takes.{default_passes, entered_passes, is_valid, level_passes, takes}
 use Rattle.clap.specs.Walk.{Row, Rule, Text, Walk, arg_by_long, default_rows, finished, has_row, nothing_held, reading_by, settled, walk, with_default}
 use Rattle.command_words.specs.Arguments.{name_of}

@@ -1,5 +1,5 @@
 -- What a parse of the form found is what was given.
-use Rattle.std.proofs.Common.{◌≡◌, ◌∙◌, ap, ap₂, sym, subst, true, false, List, [], ◌∷◌, IfSome, unwrap_or, codes}
+use Rattle.std.proofs.Common.{◌≡◌, ◌∙◌, ap, ap₂, sym, subst, true, List, [], ◌∷◌, unwrap_or, codes}
 use Rattle.std.proofs.Math.Path.{fun_ext}
 use Rattle.clap.specs.Simple.{App, HasMatchesOf, is_simple, matches_of}
 use Rattle.clap.specs.Takes.{takes}
@@ -11,8 +11,7 @@ use Rattle.command_words.specs.Arguments.{Text, name_of, value_of}
 use Rattle.command_words.specs.Commands.{are_positionals, stated}
 use Rattle.command_words.specs.Form.{laid_out}
 use Rattle.command_words.specs.Parsing.{AreValues, IsAccepted, app_of_verb, positionals_in, values_in}
-use Rattle.command_words.specs.Verbs.{is_value, word_of}
-use Rattle.command_words.specs.declared.flag.Flag.{Flag}
+use Rattle.command_words.specs.Verbs.{word_of}
 use Rattle.command_words.specs.declared.given.Given.{Given}
 use Rattle.command_words.specs.declared.verb.Verb.{Verb}
 use Rattle.command_words.proofs.Accepted.{are_values}

@@ -1,5 +1,5 @@
 -- The one form in which what is given can always be written.
-use Rattle.std.specs.Prelude.{◌≡◌, ◌++◌, List, [], ◌∷◌, None, Ok, codes, map}
+use Rattle.std.specs.Prelude.{◌≡◌, ◌++◌, List, ◌∷◌, None, Ok, codes, map}
 use Rattle.command_words.specs.Arguments.{Text, arguments, name_of}
 use Rattle.command_words.specs.Commands.{words_of}
 use Rattle.command_words.specs.declared.given.Setting.{Setting}

@@ -1,5 +1,5 @@
 -- What the parse of the one form stands on: the commands as `clap` has them, and what it finds.
-use Rattle.std.specs.Prelude.{◌≡◌, ◌<◌, ◌^◌, ◌++◌, ⊤, ℕ, Bool, true, false, List, [], ◌∷◌, Option, Some, IfSome, option_map, unwrap_or, codes}
+use Rattle.std.specs.Prelude.{◌≡◌, ◌<◌, ◌^◌, ◌++◌, ⊤, Bool, true, false, List, [], ◌∷◌, Option, Some, IfSome, option_map, unwrap_or, codes}
 use Rattle.std.specs.List.{list_all}
 use Rattle.std.specs.Str.Parse.{digits_value}
 use Rattle.clap.specs.Words.{App, Rule, first_value, found_of, matched_of, new_app, new_rule, raw_values, with_rule}
@@ -7,7 +7,7 @@ use Rattle.clap.specs.declared.builder.action.ArgAction.TheVariants.{Append}
 use Rattle.clap.specs.declared.parser.matches.ArgMatches.{ArgMatches}
 use Rattle.command_words.specs.Arguments.{Text, is_given, name_of}
 use Rattle.command_words.specs.Commands.{are_positionals, is_setting}
-use Rattle.command_words.specs.Verbs.{is_number, is_value, word_of}
+use Rattle.command_words.specs.Verbs.{is_number, is_value}
 use Rattle.command_words.specs.declared.flag.Flag.{Flag}
 use Rattle.command_words.specs.declared.flag.Flag.TheVariants.{Workers, Turns, Words, Only}
 use Rattle.command_words.specs.declared.given.Setting.{Setting}

@@ -1,4 +1,4 @@
-use Rattle.std.proofs.Common.{◌≡◌, ◌∙◌, ap, subst, map, string_bytes, Result}
+use Rattle.std.proofs.Common.{◌∙◌, ap, subst, map, string_bytes, Result}
 use Rattle.clap.specs.Words.{app_of}
 use Rattle.vocabulary.specs.Answers.{Answers}
 use Rattle.command_words.specs.declared.command.Words.{Words}
