@@ -134,7 +134,7 @@ fn total(
     let mut total = None;
     for term in terms {
         let value = meaning(alloc, &term.value, scope)?;
-        total = Some(added(alloc, total, term.minus, value)?);
+        total = Some(added(total, term.minus, value));
     }
     Ok(total)
 }
@@ -211,8 +211,7 @@ fn rescaled_value(
 {
     let from = scale_of(value.node.value_type);
     let value = meaning(alloc, value, scope)?;
-    let rescaled = rescaled(alloc, from, scale_of(value_type), &value)?;
-    Ok(rescaled)
+    Ok(rescaled(from, scale_of(value_type), value))
 }
 
 /// A quotient of the words of two numbers, by the types of these.

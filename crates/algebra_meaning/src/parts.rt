@@ -34,19 +34,14 @@ pub(crate) fn found(alloc: Global, value: Option<Value>) -> Value
 }
 
 /// A sum so far, none before its first term, with another term.
-pub(crate) fn added(
-    alloc: Global,
-    total: Option<Value>,
-    minus: bool,
-    value: Value,
-) -> Result<Value, NoMemory>
-    ensures { IfOk result (λ sum. sum ≡ spec.added total minus value) }
+pub(crate) fn added(total: Option<Value>, minus: bool, value: Value) -> Value
+    ensures { result ≡ spec.added total minus value }
 {
     match total {
-        None if minus => negated(alloc, &value),
-        None => Ok(value),
-        Some(total) if minus => difference(alloc, &total, &value),
-        Some(total) => sum(alloc, &total, &value),
+        None if minus => negated(value),
+        None => value,
+        Some(total) if minus => difference(total, &value),
+        Some(total) => sum(total, &value),
     }
 }
 
@@ -55,17 +50,17 @@ pub(crate) fn times(
     alloc: Global,
     left_type: NodeType,
     right_type: NodeType,
-    left: &Value,
-    right: &Value,
+    left: Value,
+    right: Value,
 ) -> Result<Value, NoMemory>
-    ensures { IfOk result (λ product. product ≡ times left_type right_type left.now right.now) }
+    ensures { IfOk result (λ product. product ≡ times left_type right_type left right) }
 {
     if is_scalar(left_type) {
-        scaled(alloc, left.word_of(), right)
+        Ok(scaled(left.word_of(), right))
     } else if is_scalar(right_type) {
-        scaled(alloc, right.word_of(), left)
+        Ok(scaled(right.word_of(), left))
     } else {
-        product(alloc, left, right)
+        product(alloc, &left, &right)
     }
 }
 
@@ -81,8 +76,8 @@ pub(crate) fn multiplied(
 {
     match so_far {
         None => Ok(value),
-        Some((_, left)) if is_entrywise => entrywise(alloc, &left, &value),
-        Some((left_type, left)) => times(alloc, left_type, value_type, &left, &value),
+        Some((_, left)) if is_entrywise => Ok(entrywise(left, &value)),
+        Some((left_type, left)) => times(alloc, left_type, value_type, left, value),
     }
 }
 

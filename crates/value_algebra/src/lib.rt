@@ -5,6 +5,7 @@
 mod fields;
 mod products;
 mod scales;
+mod slices;
 mod value;
 mod words;
 
@@ -13,6 +14,7 @@ pub use fields::{
     push_element, push_over, with_field,
 };
 pub use products::{dot, product, row_times_column, sum_of_products, transposed};
-pub use scales::{quotient, rescaled, rescaled_word, square_root};
+pub use scales::{quotient, rescale_each, rescaled, rescaled_word, square_root};
+pub use slices::{add_each, multiply_each, negate_each, scale_each, subtract_each};
 pub use value::{Value, entry};
 pub use words::{difference, entrywise, negated, scaled, sum};

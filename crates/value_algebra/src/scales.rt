@@ -1,6 +1,6 @@
 //! Words at other scales, quotients and square roots.
 
-ghost use Rattle.std.specs.Prelude.{◌≡◌, ◌≤◌, ◌+◌, ◌*◌, IfOk, map};
+ghost use Rattle.std.specs.Prelude.{◌≡◌, ◌≤◌, ◌+◌, ◌*◌, map};
 ghost use Rattle.std.specs.Bool.{OnTrue};
 ghost use Rattle.vocabulary.specs.declared.limits.TheConstants.{MOST_SCALE, MOST_SCALE_CHANGE};
 ghost use Rattle.type_rules.specs.Rules.{is_exponent};
@@ -8,8 +8,6 @@ ghost use Rattle.value_algebra.specs.Scales as spec;
 
 use crate::value::Value;
 use ring_words::{isqrt, quot, rescale};
-use std::alloc::{AllocError, Global};
-use vocabulary::NoMemory;
 use vocabulary::limits::{MOST_SCALE, MOST_SCALE_CHANGE};
 
 /// Whether a scale is within the limit.
@@ -66,24 +64,23 @@ pub fn rescaled_word(from: u32, to: u32, word: u64) -> u64
     }
 }
 
-/// Each word at another scale.
-fn rescaled_words(alloc: Global, from: u32, to: u32, words: &[u64]) -> Result<Vec<u64>, AllocError>
-    ensures { IfOk result (λ changed. changed.items ≡ map (spec.rescaled_word from to) words.now) }
+/// Brings each word to another scale.
+#[tactic(auto, using(crate::proofs::InPlace::one_changed))]
+pub fn rescale_each(from: u32, to: u32, words: &mut [u64])
+    ensures { words.new ≡ map (spec.rescaled_word from to) words.old }
 {
-    words
-        .iter()
-        .map(|w| rescaled_word(from, to, *w))
-        .collect(alloc)
+    for word in words.iter_mut() {
+        *word = rescaled_word(from, to, *word);
+    }
 }
 
-/// The value at another scale.
-pub fn rescaled(alloc: Global, from: u32, to: u32, value: &Value) -> Result<Value, NoMemory>
-    ensures { IfOk result (λ rescaled. rescaled ≡ spec.rescaled from to value.now) }
+/// The value at another scale, in its own memory.
+pub fn rescaled(from: u32, to: u32, value: Value) -> Value
+    ensures { result ≡ spec.rescaled from to value }
 {
-    match rescaled_words(alloc, from, to, value.words.items()) {
-        Ok(words) => Ok(value.with_words(words)),
-        Err(_) => Err(NoMemory),
-    }
+    let mut words = value.words.into_vec();
+    rescale_each(from, to, &mut words);
+    Value::of(value.rows, value.columns, words)
 }
 
 /// The quotient of `a`, a word at scale `from`, by `b` at scale `by`, as a word at scale `to`. None where `b` is 0; the

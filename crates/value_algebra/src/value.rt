@@ -53,13 +53,13 @@ impl Value {
         }
     }
 
-    /// Other words in as many rows and columns.
-    pub(crate) fn with_words(&self, words: Vec<u64>) -> Value
-        ensures { result ≡ record { rows = self.now.rows; columns = self.now.columns; words = words.items } }
+    /// The value of so many rows and columns with these words.
+    pub(crate) fn of(rows: usize, columns: usize, words: Vec<u64>) -> Value
+        ensures { result ≡ record { rows = rows; columns = columns; words = words.items } }
     {
         Value {
-            rows: self.rows,
-            columns: self.columns,
+            rows,
+            columns,
             words: L::of(words),
         }
     }

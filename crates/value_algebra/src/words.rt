@@ -1,99 +1,66 @@
-//! What is computed word by word.
+//! Values of which each word becomes another one, in the memory of the value that is handed in.
 
-ghost use Rattle.std.specs.Prelude.{◌≡◌, IfOk, map};
-ghost use Rattle.std.specs.List.{zip};
+ghost use Rattle.std.specs.Prelude.{◌≡◌, take};
 ghost use Rattle.ring_words.specs.Word as word;
 ghost use Rattle.value_algebra.specs.Value as spec;
 
+use crate::slices::{add_each, multiply_each, negate_each, scale_each, subtract_each};
 use crate::value::Value;
-use ring_words::{add, mul, neg, sub};
-use std::alloc::{AllocError, Global};
-use vocabulary::NoMemory;
-
-/// Each word negated.
-fn negated_words(alloc: Global, words: &[u64]) -> Result<Vec<u64>, AllocError>
-    ensures { IfOk result (λ changed. changed.items ≡ map word.neg words.now) }
-{
-    words.iter().map(|w| neg(*w)).collect(alloc)
-}
-
-/// Each word times a number.
-fn scaled_words(alloc: Global, factor: u64, words: &[u64]) -> Result<Vec<u64>, AllocError>
-    ensures { IfOk result (λ changed. changed.items ≡ map (word.mul factor) words.now) }
-{
-    words.iter().map(|w| mul(factor, *w)).collect(alloc)
-}
-
-/// The sums of the words at one index of two lists.
-fn sums(alloc: Global, left: &[u64], right: &[u64]) -> Result<Vec<u64>, AllocError>
-    ensures { IfOk result (λ sums. sums.items ≡ map (λ pair. word.add pair.0 pair.1) (zip left.now right.now)) }
-{
-    let pairs = left.iter().zip(right);
-    pairs.map(|(a, b)| add(*a, *b)).collect(alloc)
-}
-
-/// Their differences.
-fn differences(alloc: Global, left: &[u64], right: &[u64]) -> Result<Vec<u64>, AllocError>
-    ensures { IfOk result (λ differences. differences.items ≡ map (λ pair. word.sub pair.0 pair.1) (zip left.now right.now)) }
-{
-    let pairs = left.iter().zip(right);
-    pairs.map(|(a, b)| sub(*a, *b)).collect(alloc)
-}
-
-/// Their products.
-fn products(alloc: Global, left: &[u64], right: &[u64]) -> Result<Vec<u64>, AllocError>
-    ensures { IfOk result (λ products. products.items ≡ map (λ pair. word.mul pair.0 pair.1) (zip left.now right.now)) }
-{
-    let pairs = left.iter().zip(right);
-    pairs.map(|(a, b)| mul(*a, *b)).collect(alloc)
-}
+use vocabulary::L;
 
 /// The value negated.
-pub fn negated(alloc: Global, value: &Value) -> Result<Value, NoMemory>
-    ensures { IfOk result (λ negated. negated ≡ spec.each word.neg value.now) }
+pub fn negated(value: Value) -> Value
+    ensures { result ≡ spec.each word.neg value }
 {
-    match negated_words(alloc, value.words.items()) {
-        Ok(words) => Ok(value.with_words(words)),
-        Err(_) => Err(NoMemory),
-    }
+    let mut words = value.words.into_vec();
+    negate_each(&mut words);
+    Value::of(value.rows, value.columns, words)
 }
 
 /// The value times a number.
-pub fn scaled(alloc: Global, factor: u64, value: &Value) -> Result<Value, NoMemory>
-    ensures { IfOk result (λ scaled. scaled ≡ spec.each (word.mul factor) value.now) }
+pub fn scaled(factor: u64, value: Value) -> Value
+    ensures { result ≡ spec.each (word.mul factor) value }
 {
-    match scaled_words(alloc, factor, value.words.items()) {
-        Ok(words) => Ok(value.with_words(words)),
-        Err(_) => Err(NoMemory),
-    }
+    let mut words = value.words.into_vec();
+    scale_each(factor, &mut words);
+    Value::of(value.rows, value.columns, words)
+}
+
+/// The first words, at most so many.
+fn first_words(words: L<u64>, most: usize) -> Vec<u64>
+    ensures { result.items ≡ take most words }
+{
+    let mut first = words.into_vec();
+    first.truncate(most);
+    first
 }
 
 /// The sum of two values of one size.
-pub fn sum(alloc: Global, left: &Value, right: &Value) -> Result<Value, NoMemory>
-    ensures { IfOk result (λ sum. sum ≡ spec.both word.add left.now right.now) }
+pub fn sum(left: Value, right: &Value) -> Value
+    ensures { result ≡ spec.both word.add left right.now }
 {
-    match sums(alloc, left.words.items(), right.words.items()) {
-        Ok(words) => Ok(left.with_words(words)),
-        Err(_) => Err(NoMemory),
-    }
+    let others = right.words.items();
+    let mut words = first_words(left.words, others.len());
+    add_each(&mut words, others);
+    Value::of(left.rows, left.columns, words)
 }
 
 /// The difference of two values of one size.
-pub fn difference(alloc: Global, left: &Value, right: &Value) -> Result<Value, NoMemory>
-    ensures { IfOk result (λ difference. difference ≡ spec.both word.sub left.now right.now) }
+pub fn difference(left: Value, right: &Value) -> Value
+    ensures { result ≡ spec.both word.sub left right.now }
 {
-    match differences(alloc, left.words.items(), right.words.items()) {
-        Ok(words) => Ok(left.with_words(words)),
-        Err(_) => Err(NoMemory),
-    }
+    let others = right.words.items();
+    let mut words = first_words(left.words, others.len());
+    subtract_each(&mut words, others);
+    Value::of(left.rows, left.columns, words)
 }
 
 /// The product of two values of one size, word by word.
-pub fn entrywise(alloc: Global, left: &Value, right: &Value) -> Result<Value, NoMemory>
-    ensures { IfOk result (λ product. product ≡ spec.both word.mul left.now right.now) }
+pub fn entrywise(left: Value, right: &Value) -> Value
+    ensures { result ≡ spec.both word.mul left right.now }
 {
-    match products(alloc, left.words.items(), right.words.items()) {
-        Ok(words) => Ok(left.with_words(words)),
-        Err(_) => Err(NoMemory),
-    }
+    let others = right.words.items();
+    let mut words = first_words(left.words, others.len());
+    multiply_each(&mut words, others);
+    Value::of(left.rows, left.columns, words)
 }

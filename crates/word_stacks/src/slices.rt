@@ -5,7 +5,9 @@ ghost use Rattle.std.specs.List.{zip};
 ghost use Rattle.word_stacks.specs.Stack as spec;
 
 use ring_words::{add, mul, neg, sub};
-use value_algebra::rescaled_word;
+use value_algebra::{
+    add_each, multiply_each, negate_each, rescale_each, rescaled_word, scale_each, subtract_each,
+};
 
 /// What becomes of each word of a value.
 #[derive(Clone, Copy, Debug, PartialEq, Eq)]
@@ -27,12 +29,13 @@ pub(crate) fn changed(change: Change, word: u64) -> u64
 }
 
 /// Changes each word.
-#[tactic(auto, using(crate::proofs::InPlace::one_changed))]
 pub(crate) fn change_each(change: Change, words: &mut [u64])
     ensures { words.new ≡ map (spec.changed change) words.old }
 {
-    for word in words.iter_mut() {
-        *word = changed(change, *word);
+    match change {
+        Change::Negated => negate_each(words),
+        Change::Scaled(factor) => scale_each(factor, words),
+        Change::Rescaled { from, to } => rescale_each(from, to, words),
     }
 }
 
@@ -56,12 +59,12 @@ pub(crate) fn joined(join: Join, a: u64, b: u64) -> u64
 }
 
 /// Puts in place of each word what is made of it and the word at its index in another list, as far as both lists go.
-#[tactic(auto, using(crate::proofs::InPlace::one_joined, crate::proofs::InPlace::all_joined))]
 pub(crate) fn join_each(join: Join, left: &mut [u64], right: &[u64])
     ensures { left.new ≡ map (λ pair. spec.joined join pair.0 pair.1) (zip left.old right.now) ++ drop (length right.now) left.old }
 {
-    let both = left.len().min(right.len());
-    for i in 0..both {
-        left[i] = joined(join, left[i], right[i]);
+    match join {
+        Join::Sum => add_each(left, right),
+        Join::Difference => subtract_each(left, right),
+        Join::Product => multiply_each(left, right),
     }
 }

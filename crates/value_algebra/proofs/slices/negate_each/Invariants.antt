@@ -1,0 +1,6 @@
+use Rattle.std.proofs.Common.{◌≡◌, ◌++◌, drop, map, take}
+use Rattle.ring_words.specs.Word.{neg}
+use Rattle.value_algebra.proofs.slices.negate_each.Given as goal
+
+abbrev pub invariant-loop-word : goal.invariant-loop-word
+invariant-loop-word l = l.words ≡ map neg (take l.word-index l.initial.words) ++ drop l.word-index l.initial.words
