@@ -2,6 +2,7 @@
 use Rattle.std.proofs.Common.{◌≡◌, ℕ, List, map, Result, Ok, sym, ap, ◌∙◌}
 use Rattle.std.proofs.Math.Path.{fun_ext}
 use Rattle.ring_words.specs.declared.trap.TrapKind.{TrapKind}
+use Rattle.type_rules.specs.Types.{scale_of}
 use Rattle.type_rules.specs.declared.types.NodeType.{NodeType}
 use Rattle.typed_tree.specs.declared.expression.Node.{Node}
 use Rattle.typed_tree.specs.declared.expression.Referent.{Referent}
@@ -17,7 +18,7 @@ use Rattle.typed_tree.specs.declared.expression.TypedTerm.{TypedTerm}
 use Rattle.value_algebra.specs.declared.value.Value.{Value}
 use Rattle.value_algebra.specs.Value.{number}
 use Rattle.algebra_meaning.specs.Expression as spec
-use Rattle.algebra_meaning.specs.Expression.{Meant, Operand, Part, Scope, expression_part, factor_of, form_meaning, form_of, meaning, part_of, reference, row_of, row_values, sum, product, term_of, transposed_part, scalar_product}
+use Rattle.algebra_meaning.specs.Expression.{Meant, Operand, Part, Scope, expression_part, factor_of, form_meaning, form_of, meaning, part_of, reference, row_of, row_values, sum, product, term_of, transposed_part, rescaled_part, quotient, root, scalar_product}
 use Rattle.expression_forms.specs.Meanings.{at_node, part_is, term_operand, factor_operand}
 
 module _ (scope : Scope) where
@@ -76,6 +77,25 @@ module _ (scope : Scope) where
   transposed_is node value =
       at_is node (form.Transposed value) ∙ ap (λ f. form_of scope f node.value_type) (sym (form.rolls-Transposed value))
       ∙ rolled (TypedForm-F.Transposed value) node.value_type ∙ ap (λ f. transposed_part (f value)) parts_are
+
+  pub rescale_is : (node : Node) (value : TypedExpr) → meaning scope (at_node node (form.Rescale value)) ≡ rescaled_part (scale_of node.value_type) (part_is scope value)
+  unfolding form_meaning
+  rescale_is node value =
+      at_is node (form.Rescale value) ∙ ap (λ f. form_of scope f node.value_type) (sym (form.rolls-Rescale value))
+      ∙ rolled (TypedForm-F.Rescale value) node.value_type ∙ ap (λ f. rescaled_part (scale_of node.value_type) (f value)) parts_are
+
+  pub quot_is : (node : Node) (dividend divisor : TypedExpr)
+      → meaning scope (at_node node (form.Quot dividend divisor)) ≡ quotient (scale_of node.value_type) (part_is scope dividend) (part_is scope divisor)
+  unfolding form_meaning
+  quot_is node dividend divisor =
+      at_is node (form.Quot dividend divisor) ∙ ap (λ f. form_of scope f node.value_type) (sym (form.rolls-Quot dividend divisor))
+      ∙ rolled (TypedForm-F.Quot dividend divisor) node.value_type ∙ ap (λ f. quotient (scale_of node.value_type) (f dividend) (f divisor)) parts_are
+
+  pub isqrt_is : (node : Node) (value : TypedExpr) → meaning scope (at_node node (form.Isqrt value)) ≡ root (scale_of node.value_type) (part_is scope value)
+  unfolding form_meaning
+  isqrt_is node value =
+      at_is node (form.Isqrt value) ∙ ap (λ f. form_of scope f node.value_type) (sym (form.rolls-Isqrt value))
+      ∙ rolled (TypedForm-F.Isqrt value) node.value_type ∙ ap (λ f. root (scale_of node.value_type) (f value)) parts_are
 
   pub dot_is : (node : Node) (left right : TypedExpr)
       → meaning scope (at_node node (form.Dot left right)) ≡ scalar_product (part_is scope left) (part_is scope right)

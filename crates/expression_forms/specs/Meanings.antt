@@ -1,5 +1,6 @@
 -- What the definition of values says of each form of typed expression.
 use Rattle.std.specs.Prelude.{◌≡◌, ℕ, List, map, Ok}
+use Rattle.type_rules.specs.Types.{scale_of}
 use Rattle.typed_tree.specs.declared.expression.Node.{Node}
 use Rattle.typed_tree.specs.declared.expression.Referent.{Referent}
 use Rattle.typed_tree.specs.declared.expression.TypedExpr.{TypedExpr, roll-TypedExpr}
@@ -8,7 +9,7 @@ use Rattle.typed_tree.specs.declared.expression.TypedForm.{TypedForm}
 use Rattle.typed_tree.specs.declared.expression.TypedForm.TheVariants as form
 use Rattle.typed_tree.specs.declared.expression.TypedTerm.{TypedTerm}
 use Rattle.value_algebra.specs.Value.{number}
-use Rattle.algebra_meaning.specs.Expression.{Operand, Part, Scope, meaning, reference, sum, product, transposed_part, scalar_product}
+use Rattle.algebra_meaning.specs.Expression.{Operand, Part, Scope, meaning, reference, sum, product, transposed_part, rescaled_part, quotient, root, scalar_product}
 
 -- an expression of a form at a node
 abbrev pub at_node : Node → TypedForm → TypedExpr
@@ -31,5 +32,12 @@ pub record MeaningForms : Type 0 where
   pub sum_is : (scope : Scope) (node : Node) (terms : List TypedTerm) → meaning scope (at_node node (form.Sum terms)) ≡ sum (map (term_operand scope) terms)
   pub product_is : (scope : Scope) (node : Node) (factors : List TypedFactor) → meaning scope (at_node node (form.Product factors)) ≡ product (map (factor_operand scope) factors)
   pub transposed_is : (scope : Scope) (node : Node) (value : TypedExpr) → meaning scope (at_node node (form.Transposed value)) ≡ transposed_part (part_is scope value)
+  -- the value at the scale of the node's own type
+  pub rescale_is : (scope : Scope) (node : Node) (value : TypedExpr)
+      → meaning scope (at_node node (form.Rescale value)) ≡ rescaled_part (scale_of node.value_type) (part_is scope value)
+  pub quot_is : (scope : Scope) (node : Node) (dividend divisor : TypedExpr)
+      → meaning scope (at_node node (form.Quot dividend divisor)) ≡ quotient (scale_of node.value_type) (part_is scope dividend) (part_is scope divisor)
+  pub isqrt_is : (scope : Scope) (node : Node) (value : TypedExpr)
+      → meaning scope (at_node node (form.Isqrt value)) ≡ root (scale_of node.value_type) (part_is scope value)
   pub dot_is : (scope : Scope) (node : Node) (left right : TypedExpr)
       → meaning scope (at_node node (form.Dot left right)) ≡ scalar_product (part_is scope left) (part_is scope right)

@@ -1,4 +1,4 @@
-use Rattle.expression_forms.proofs.Meanings.{number_is, reference_is, sum_is, product_is, transposed_is, dot_is}
+use Rattle.expression_forms.proofs.Meanings.{number_is, reference_is, sum_is, product_is, transposed_is, rescale_is, quot_is, isqrt_is, dot_is}
 use Rattle.expression_forms.proofs.meaning_form_law.Goals as goal
 
 pub returns : goal.returns
@@ -8,5 +8,8 @@ returns c = record {
   sum_is = sum_is;
   product_is = product_is;
   transposed_is = transposed_is;
+  rescale_is = rescale_is;
+  quot_is = quot_is;
+  isqrt_is = isqrt_is;
   dot_is = dot_is;
 }
