@@ -51,7 +51,7 @@ reference_unfolds : (env : Environment) (line : ℕ) (name : Name) (field : Opti
 unfolding typed.reference
 reference_unfolds env line name field rank next = refl
 
-literal_type : (scale : ℕ) (word : Option ℕ) (t : NodeType) → literal_rule scale word ≡ Ok t → type.Local block.Number scale ≡ t
+pub literal_type : (scale : ℕ) (word : Option ℕ) (t : NodeType) → literal_rule scale word ≡ Ok t → type.Local block.Number scale ≡ t
 unfolding literal_rule
 literal_type scale word t is = by_tests (nat_lt MOST_FIELD_SCALE scale) (is_missing word) is
   where
@@ -60,7 +60,7 @@ literal_type scale word t is = by_tests (nat_lt MOST_FIELD_SCALE scale) (is_miss
     by_tests false true answers = absurd (cc)
     by_tests false false answers = same_Ok (type.Local block.Number scale) t answers
 
-ranked_type : (t : NodeType) (rank : ℕ) (u : NodeType) → rank_rule t rank ≡ Ok u → (has_rank t rank ≡ true) × (t ≡ u)
+pub ranked_type : (t : NodeType) (rank : ℕ) (u : NodeType) → rank_rule t rank ≡ Ok u → (has_rank t rank ≡ true) × (t ≡ u)
 unfolding rank_rule
 ranked_type t rank u is = by_test (has_rank t rank) is
   where
@@ -68,7 +68,7 @@ ranked_type t rank u is = by_test (has_rank t rank) is
     by_test true answers = (refl, same_Ok t u answers)
     by_test false answers = absurd (cc)
 
-reference_means : (scope : Scope) (what : Referent) → meant.reference scope what [] [] ≡ Ok (referred scope what [] [])
+pub reference_means : (scope : Scope) (what : Referent) → meant.reference scope what [] [] ≡ Ok (referred scope what [] [])
 unfolding meant.reference
 reference_means scope what = refl
 

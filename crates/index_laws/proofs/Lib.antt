@@ -1,6 +1,11 @@
+mod Added
 mod Answers
 mod Atoms
 mod Chains
+mod ExpressionSizes
 mod Products
 mod Rules
+mod Sums
 mod Terms
+mod TypeSizes
+mod Words

@@ -69,14 +69,14 @@ Facts (Factors.another r s q n v w u e es fact c sound rest) = fact × Agree c v
 
 -- ---- folds
 
-fold_append : {A B E : Type 0} (step : A → B → Result A E) (start middle : A) (xs ys : List B) → fold_result step start xs ≡ Ok middle
+pub fold_append : {A B E : Type 0} (step : A → B → Result A E) (start middle : A) (xs ys : List B) → fold_result step start xs ≡ Ok middle
     → fold_result step start (xs ++ ys) ≡ fold_result step middle ys
 fold_append step start middle [] ys is = ap (λ m. fold_result step m ys) (same_Ok start middle is)
 fold_append step start middle (x ∷ xs) ys is =
     let one = and_then (step start x) (λ next. fold_result step next xs) middle is in
     ap (λ r. r >>= λ next. fold_result step next (xs ++ ys)) one.1 ∙ fold_append step one.0 middle xs ys one.2
 
-map_append : {A B : Type 0} (f : A → B) (xs ys : List A) → map f (xs ++ ys) ≡ map f xs ++ map f ys
+pub map_append : {A B : Type 0} (f : A → B) (xs ys : List A) → map f (xs ++ ys) ≡ map f xs ++ map f ys
 map_append f [] ys = refl
 map_append f (x ∷ xs) ys = ap (λ l. f x ∷ l) (map_append f xs ys)
 
@@ -88,7 +88,7 @@ pub product_unfolds : (line next : ℕ) (steps : List SignedStep) → typed.prod
 unfolding typed.product
 product_unfolds line next steps = refl
 
-product_means : (factors : List Operand) → meant.product factors ≡ (chain factors >>= λ d. Ok (last_value d))
+pub product_means : (factors : List Operand) → meant.product factors ≡ (chain factors >>= λ d. Ok (last_value d))
 unfolding meant.product
 product_means factors = refl
 

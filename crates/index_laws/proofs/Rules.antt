@@ -26,11 +26,11 @@ use Rattle.index_laws.proofs.Answers.{same_Ok, same_Some}
 abbrev pub Ranked : ℕ → NodeType → Type 0
 Ranked rank t = has_rank t rank ≡ true
 
-product_shape : (l r : Value) → ((product l r).rows ≡ l.rows) × ((product l r).columns ≡ r.columns)
+pub product_shape : (l r : Value) → ((product l r).rows ≡ l.rows) × ((product l r).columns ≡ r.columns)
 unfolding product
 product_shape l r = (refl, refl)
 
-transposed_shape : (v : Value) → ((transposed v).rows ≡ v.columns) × ((transposed v).columns ≡ v.rows)
+pub transposed_shape : (v : Value) → ((transposed v).rows ≡ v.columns) × ((transposed v).columns ≡ v.rows)
 unfolding transposed
 transposed_shape v = (refl, refl)
 
@@ -136,7 +136,7 @@ module _ (entries : EntryLaws) (sets : List SetValue) where
           )
 
   -- a rule of products whose tests passed, with the form that it answers
-  both_passed : (set_kind scale_kind : TypeKind) (x y : Bool) (form : Option NodeType) (rho : NodeType)
+  pub both_passed : (set_kind scale_kind : TypeKind) (x y : Bool) (form : Option NodeType) (rho : NodeType)
       → judged_form ((set_kind, x) ∷ (scale_kind, y) ∷ []) form ≡ Ok rho → (x ≡ false) × (form ≡ Some rho)
   both_passed set_kind scale_kind x y None rho is = absurd (cc)
   both_passed set_kind scale_kind true y (Some f) rho is = absurd (cc)
@@ -180,15 +180,15 @@ module _ (entries : EntryLaws) (sets : List SetValue) where
   with_scale_ranked rank (type.SystemVector set b s) scale ranked = ranked
   with_scale_ranked rank (type.SystemMatrix r c b s) scale ranked = ranked
 
-  with_scale_fits : (u : NodeType) (scale : ℕ) (w : Value) → Fits sets u w → Fits sets (with_scale u scale) w
+  pub with_scale_fits : (u : NodeType) (scale : ℕ) (w : Value) → Fits sets u w → Fits sets (with_scale u scale) w
   with_scale_fits (type.Local b s) scale w fits = record { whole = fits.whole; rows = fits.rows; columns = fits.columns; blocks = tt }
   with_scale_fits (type.SystemVector set b s) scale w fits = record { whole = fits.whole; rows = fits.rows; columns = fits.columns; blocks = tt }
   with_scale_fits (type.SystemMatrix r c block.Number s) scale w fits = record { whole = fits.whole; rows = fits.rows; columns = fits.columns; blocks = tt }
   with_scale_fits (type.SystemMatrix r c (block.Vector n) s) scale w fits = absurd fits.blocks
   with_scale_fits (type.SystemMatrix r c (block.Matrix m n) s) scale w fits = record { whole = fits.whole; rows = fits.rows; columns = fits.columns; blocks = tt }
 
-  each_fits : (u : NodeType) (k : ℕ) (w : Value) → Fits sets u w → Fits sets u (each (mul k) w)
-  each_fits u k w fits = record { whole = entries.each_whole (mul k) w fits.whole; rows = fits.rows; columns = fits.columns; blocks = fits.blocks }
+  pub each_fits : (u : NodeType) (change : ℕ → ℕ) (w : Value) → Fits sets u w → Fits sets u (each change w)
+  each_fits u change w fits = record { whole = entries.each_whole change w fits.whole; rows = fits.rows; columns = fits.columns; blocks = fits.blocks }
 
   pub scaled : (rank : ℕ) (t u rho : NodeType) (v w : Value) → Ranked 0 t → Ranked rank u → Fits sets u w → product_rule t u ≡ Ok rho
       → Gives sets rank rho (each (mul (word_of v)) w) × (times t u v w ≡ each (mul (word_of v)) w)
@@ -202,7 +202,7 @@ module _ (entries : EntryLaws) (sets : List SetValue) where
           let added : ℕ = scales_added (type.Local block.Number s) u in
           let tests = both_passed kind.Set kind.Scale (not (is_inner_the_same (type.Local block.Number s) u)) (nat_lt MOST_SCALE added) (Some (with_scale u added)) rho is in (
             subst (λ o. Gives sets rank o (each (mul (word_of v)) w)) (same_Some (with_scale u added) rho tests.1)
-                (record { ranked = with_scale_ranked rank u added ranked; fits = with_scale_fits u added (each (mul (word_of v)) w) (each_fits u (word_of v) w second) }),
+                (record { ranked = with_scale_ranked rank u added ranked; fits = with_scale_fits u added (each (mul (word_of v)) w) (each_fits u (mul (word_of v)) w second) }),
             refl,
           )
 

@@ -14,7 +14,7 @@ use Rattle.typed_tree.specs.declared.environment.Environment.{Environment}
 use Rattle.typed_tree.specs.declared.expression.TypedExpr.{TypedExpr}
 use Rattle.typed_tree.specs.declared.expression.TypedForm.TheVariants as form
 use Rattle.typed_tree.specs.Expressions as typed
-use Rattle.typed_tree.specs.Expressions.{expression}
+use Rattle.typed_tree.specs.Expressions.{expression, type_of}
 use Rattle.value_algebra.specs.declared.value.Value.{Value}
 use Rattle.value_algebra.specs.Value.{word_of, each}
 use Rattle.value_laws.specs.Laws.{EntryLaws}
@@ -23,7 +23,7 @@ use Rattle.chain_forms.specs.declared.chain.Chain.{Chain}
 use Rattle.chain_forms.specs.declared.chain.Chain.TheVariants as chain
 use Rattle.chain_forms.specs.declared.chain.Link.{Link}
 use Rattle.chain_forms.specs.Atoms.{Name, indices_of, indices_at, is_factor, one_if}
-use Rattle.chain_forms.specs.ChainForm.{IsSimple, Leads, AllLead, Ordered, links_of, times_in}
+use Rattle.chain_forms.specs.ChainForm.{IsChain, IsSimple, Leads, AllLead, Ordered, links_of, times_in}
 use Rattle.chain_forms.specs.ChainForm.Leads.{last, further}
 use Rattle.chain_forms.specs.ChainForm.Ordered.{no_factors, between_vectors, in_groups, between_indices}
 use Rattle.chain_forms.specs.Lowering as lowering
@@ -33,8 +33,8 @@ use Rattle.expression_forms.specs.Typings.{TypingForms}
 use Rattle.index_meaning.specs.Agreement.{HasShape, HaveShapes}
 use Rattle.index_meaning.specs.LoweredValues.{value_at, scaled_from, chain_values, product_of_all, term_value}
 use Rattle.index_laws.specs.AtomValues.{atom_value}
-use Rattle.index_laws.specs.Fits.{NamesFit}
-use Rattle.index_laws.specs.Laws.{IsTermMeant}
+use Rattle.index_laws.specs.Fits.{Fits, NamesFit}
+use Rattle.index_laws.specs.Laws.{IsTermMeant, MeansTerm}
 use Rattle.index_meaning.specs.Laws.{IndexTermLaw}
 use Rattle.index_laws.proofs.Atoms.{shaped_sound}
 use Rattle.index_laws.proofs.Chains.{AllShaped, with_fact, link_expr, used_leading, used_more, beside_atom, product_one, product_more, ChainHolds, between_sound, groups_sound, matrices_sound}
@@ -226,8 +226,15 @@ have_shapes value (a ∷ atoms) scalars factors =
 
 -- ---- the law
 
-pub term_meant : (typing : TypingForms) (meanings : MeaningForms) (terms : IndexTermLaw) (entries : EntryLaws) → IsTermMeant
-term_meant typing meanings terms entries env scope free line atoms ordering next done fit c is =
+-- a term's expression means its sum, and its value has the size of its type
+pub record TermFound (env : Environment) (scope : Scope) (free : List Name) (atoms : List IxAtom) (t : TypedExpr) : Type 0 where
+  pub means : MeansTerm env scope free atoms t
+  pub fits : Fits scope.sets (type_of t) means.value
+
+pub term_found : (typing : TypingForms) (meanings : MeaningForms) (terms : IndexTermLaw) (entries : EntryLaws) (env : Environment) (scope : Scope) (free : List Name) (line : ℕ) (atoms : List IxAtom)
+    (ordering : Chain) (next : ℕ) (done : TypedExpr × ℕ) → NamesFit env scope → IsChain atoms free ordering → expression env (lowered_by ordering line atoms) next ≡ Ok done
+    → TermFound env scope free atoms done.0
+term_found typing meanings terms entries env scope free line atoms ordering next done fit c is =
     let here = term_sound typing meanings entries env scope fit atoms c.simple line free ordering c.ordered next done is in
     let value : IxAtom → Value = atom_value env scope in
     let shapes : HaveShapes value atoms =
@@ -235,10 +242,17 @@ term_meant typing meanings terms entries env scope free line atoms ordering next
     (λ position factor. factor_shaped value atoms position (links_of ordering) here.1.1.0 (subst (λ n. 0 < n) (sym (c.all position ∙ ap one_if factor)) (omega arith))) in
     let sized = terms.sized value free atoms ordering c shapes here.1.1.1 in
     record {
-      size = sized.size;
-      sizes = sized.sizes;
-      value = term_value value atoms ordering;
-      meant = here.0.meant;
-      has_sizes = terms.sizes value sized.size free atoms ordering c sized.sizes;
-      sum = λ at within. terms.sum value sized.size free atoms ordering at c sized.sizes within;
+      means = record {
+        size = sized.size;
+        sizes = sized.sizes;
+        value = term_value value atoms ordering;
+        meant = here.0.meant;
+        has_sizes = terms.sizes value sized.size free atoms ordering c sized.sizes;
+        sum = λ at within. terms.sum value sized.size free atoms ordering at c sized.sizes within;
+      };
+      fits = here.0.fits;
     }
+
+pub term_meant : (typing : TypingForms) (meanings : MeaningForms) (terms : IndexTermLaw) (entries : EntryLaws) → IsTermMeant
+term_meant typing meanings terms entries env scope free line atoms ordering next done fit c is =
+    (term_found typing meanings terms entries env scope free line atoms ordering next done fit c is).means

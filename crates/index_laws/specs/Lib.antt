@@ -1,3 +1,5 @@
 pub mod AtomValues
 pub mod Fits
 pub mod Laws
+pub mod SignedSums
+pub mod Sizes
