@@ -4,13 +4,14 @@ use crate::judging::judged;
 use crate::layout::laid_out;
 use crate::{Words, WordsFault, read};
 use std::alloc::Global;
+use std::process::Abort;
 use std::test::Fail;
 use vocabulary::Text;
 
 const REFUSED: &str = "refused";
 
-/// Words, and the command.
-static WORDS: [(&[&str], &str); 91] = [
+/// Words of `run`, and the command.
+static RUNS: [(&[&str], &str); 18] = [
     (
         &["run", "a.sim"],
         "run a.sim with 4 workers, 100000 turns, 16777216 words",
@@ -67,19 +68,6 @@ static WORDS: [(&[&str], &str); 91] = [
         &["run", "a.sim", "--", "--workers=2"],
         "run a.sim --workers=2 with 4 workers, 100000 turns, 16777216 words",
     ),
-    (&["plan", "a.sim", "p"], "plan a.sim p with 16777216 words"),
-    (&["plan", "--words=5", "a.sim"], "plan a.sim with 5 words"),
-    (&["plain", "a.sim", "p"], "plain a.sim p with 100000 turns"),
-    (
-        &["plain", "--turns=7", "a.sim", "--only=p"],
-        "plain a.sim with 7 turns, only p",
-    ),
-    (&["make", "7", "3"], "make 7 3 with 4 workers"),
-    (
-        &["make", "4294967295", "524288", "--workers", "16"],
-        "make 4294967295 524288 with 16 workers",
-    ),
-    (&["make", "0", "--", "1"], "make 0 1 with 4 workers"),
     (
         &["run", "a.sim", "--only=--x"],
         "run a.sim with 4 workers, 100000 turns, 16777216 words, only --x",
@@ -106,6 +94,23 @@ static WORDS: [(&[&str], &str); 91] = [
         ],
         "run p q with 2 workers, 1 turns, 3 words, only s",
     ),
+];
+
+/// Words of the other commands, and the command.
+static OTHERS: [(&[&str], &str); 9] = [
+    (&["plan", "a.sim", "p"], "plan a.sim p with 16777216 words"),
+    (&["plan", "--words=5", "a.sim"], "plan a.sim with 5 words"),
+    (&["plain", "a.sim", "p"], "plain a.sim p with 100000 turns"),
+    (
+        &["plain", "--turns=7", "a.sim", "--only=p"],
+        "plain a.sim with 7 turns, only p",
+    ),
+    (&["make", "7", "3"], "make 7 3 with 4 workers"),
+    (
+        &["make", "4294967295", "524288", "--workers", "16"],
+        "make 4294967295 524288 with 16 workers",
+    ),
+    (&["make", "0", "--", "1"], "make 0 1 with 4 workers"),
     (
         &["plain", "--only", "-", "--", "--only", "-"],
         "plain --only - with 100000 turns, only -",
@@ -114,70 +119,82 @@ static WORDS: [(&[&str], &str); 91] = [
         &["make", "--workers=64", "0000000007", "0000000001"],
         "make 7 1 with 64 workers",
     ),
-    (&[], REFUSED),
-    (&[""], REFUSED),
-    (&["run"], REFUSED),
-    (&["Run", "a.sim"], REFUSED),
-    (&["--", "run", "a.sim"], REFUSED),
-    (&["run", "--"], REFUSED),
-    (&["run", "a.sim", "--workers", "0"], REFUSED),
-    (&["run", "a.sim", "--workers=65"], REFUSED),
-    (&["run", "a.sim", "--turns", "5", "--turns", "6"], REFUSED),
-    (&["run", "a.sim", "--turns=5", "--turns=5"], REFUSED),
-    (&["run", "a.sim", "--turns", "1048577"], REFUSED),
-    (&["run", "a.sim", "--words=16777217"], REFUSED),
-    (&["run", "a.sim", "--words=00000000001"], REFUSED),
-    (&["run", "a.sim", "--words=+1"], REFUSED),
-    (&["run", "a.sim", "--words= 1"], REFUSED),
-    (&["run", "a.sim", "--words=1.0"], REFUSED),
-    (&["run", "a.sim", "--words="], REFUSED),
-    (&["run", "a.sim", "--words"], REFUSED),
-    (&["run", "a.sim", "--words", ""], REFUSED),
-    (&["run", "a.sim", "--words", "-1"], REFUSED),
-    (&["run", "a.sim", "--only", "--"], REFUSED),
-    (&["run", "a.sim", "--only", "-x"], REFUSED),
-    (&["run", "a.sim", "-w"], REFUSED),
-    (&["run", "a.sim", "--worker=1"], REFUSED),
-    (&["run", "a.sim", "--Workers=1"], REFUSED),
-    (&["run", "a.sim", "--=1"], REFUSED),
-    (&["run", "a.sim", "--help"], REFUSED),
-    (&["run", "a.sim", ""], REFUSED),
-    (&["run", "a.sim", "--", ""], REFUSED),
-    (&["plan", "a.sim", "--workers=4"], REFUSED),
-    (&["plan", "a.sim", "--only=p"], REFUSED),
-    (&["plain", "a.sim", "--words=1"], REFUSED),
-    (&["make", "7"], REFUSED),
-    (&["make", "7", "3", "1"], REFUSED),
-    (&["make", "4294967296", "1"], REFUSED),
-    (&["make", "7", "0"], REFUSED),
-    (&["make", "7", "524289"], REFUSED),
-    (&["--turns=5", "run", "a.sim"], REFUSED),
-    (&["plan"], REFUSED),
-    (&["plain", "--"], REFUSED),
-    (&["run", "a.sim", "--turns="], REFUSED),
-    (&["run", "a.sim", "--turns", "-5"], REFUSED),
-    (&["run", "a.sim", "--turns=-5"], REFUSED),
-    (&["run", "a.sim", "--turns", "-"], REFUSED),
-    (&["run", "a.sim", "--turns", "--", "5"], REFUSED),
-    (&["run", "a.sim", "--turns", "5", "--turns=6"], REFUSED),
-    (&["run", "a.sim", "--turns", "--turns", "5"], REFUSED),
-    (&["run", "a.sim", "--only", "--x"], REFUSED),
-    (&["run", "a.sim", "--only", "p", "--only", "p"], REFUSED),
-    (&["run", "a.sim", "--turns5"], REFUSED),
-    (&["run", "a.sim", "--workers=00000000004"], REFUSED),
-    (&["run", "a.sim", "--turns=00000100000"], REFUSED),
-    (&["run", "a.sim", "---"], REFUSED),
-    (&["", "a.sim"], REFUSED),
-    (&["plan", "a.sim", "--turns=4"], REFUSED),
-    (&["plain", "a.sim", "--workers=4"], REFUSED),
-    (&["make", "7", "3", "--turns=4"], REFUSED),
-    (&["make", "7", "3", "--words=4"], REFUSED),
-    (&["make", "7", "3", "--only=p"], REFUSED),
-    (&["make", "7", "3", "--", "1"], REFUSED),
-    (&["make", "--", "-7", "3"], REFUSED),
-    (&["make", "00000000007", "3"], REFUSED),
-    (&["make", "7", "x"], REFUSED),
-    (&["make"], REFUSED),
+];
+
+/// Words that are no command, or lack or have too many words: refused.
+static REFUSED_COMMANDS: [&[&str]; 15] = [
+    &[],
+    &[""],
+    &["run"],
+    &["Run", "a.sim"],
+    &["run", "a.sim", ""],
+    &["make", "7"],
+    &["make", "7", "3", "1"],
+    &["make", "4294967296", "1"],
+    &["make", "7", "0"],
+    &["make", "7", "524289"],
+    &["plan"],
+    &["", "a.sim"],
+    &["make", "00000000007", "3"],
+    &["make", "7", "x"],
+    &["make"],
+];
+
+/// Words of `run` with an option that has no number, or is given twice: refused.
+static REFUSED_NUMBERS: [&[&str]; 23] = [
+    &["run", "a.sim", "--workers", "0"],
+    &["run", "a.sim", "--workers=65"],
+    &["run", "a.sim", "--turns", "5", "--turns", "6"],
+    &["run", "a.sim", "--turns=5", "--turns=5"],
+    &["run", "a.sim", "--turns", "1048577"],
+    &["run", "a.sim", "--words=16777217"],
+    &["run", "a.sim", "--words=00000000001"],
+    &["run", "a.sim", "--words=+1"],
+    &["run", "a.sim", "--words= 1"],
+    &["run", "a.sim", "--words=1.0"],
+    &["run", "a.sim", "--words="],
+    &["run", "a.sim", "--words"],
+    &["run", "a.sim", "--words", ""],
+    &["run", "a.sim", "--words", "-1"],
+    &["run", "a.sim", "--turns="],
+    &["run", "a.sim", "--turns", "-5"],
+    &["run", "a.sim", "--turns=-5"],
+    &["run", "a.sim", "--turns", "-"],
+    &["run", "a.sim", "--turns", "--", "5"],
+    &["run", "a.sim", "--turns", "5", "--turns=6"],
+    &["run", "a.sim", "--turns", "--turns", "5"],
+    &["run", "a.sim", "--workers=00000000004"],
+    &["run", "a.sim", "--turns=00000100000"],
+];
+
+/// Words with an option that the command hasn't, that isn't there, or whose value isn't: refused.
+static REFUSED_OPTIONS: [&[&str]; 26] = [
+    &["--", "run", "a.sim"],
+    &["run", "--"],
+    &["run", "a.sim", "--only", "--"],
+    &["run", "a.sim", "--only", "-x"],
+    &["run", "a.sim", "-w"],
+    &["run", "a.sim", "--worker=1"],
+    &["run", "a.sim", "--Workers=1"],
+    &["run", "a.sim", "--=1"],
+    &["run", "a.sim", "--help"],
+    &["run", "a.sim", "--", ""],
+    &["plan", "a.sim", "--workers=4"],
+    &["plan", "a.sim", "--only=p"],
+    &["plain", "a.sim", "--words=1"],
+    &["--turns=5", "run", "a.sim"],
+    &["plain", "--"],
+    &["run", "a.sim", "--only", "--x"],
+    &["run", "a.sim", "--only", "p", "--only", "p"],
+    &["run", "a.sim", "--turns5"],
+    &["run", "a.sim", "---"],
+    &["plan", "a.sim", "--turns=4"],
+    &["plain", "a.sim", "--workers=4"],
+    &["make", "7", "3", "--turns=4"],
+    &["make", "7", "3", "--words=4"],
+    &["make", "7", "3", "--only=p"],
+    &["make", "7", "3", "--", "1"],
+    &["make", "--", "-7", "3"],
 ];
 
 /// Words, and the one form of them.
@@ -307,13 +324,43 @@ fn form_line(alloc: Global, word: &str, words: &[&str]) -> Result<String, Fail> 
     }
 }
 
-#[test]
-fn words_state_commands(rt: HostRuntime) -> Result<(), Fail> {
-    for (words, want) in &WORDS {
+/// Each line's words state its command.
+fn assert_commands(rt: &(impl Abort + AllocGlobal), lines: &[(&[&str], &str)]) -> Result<(), Fail> {
+    for (words, want) in lines {
         let found = read_line(rt.alloc(), words)?;
         assert_eq!(rt; found.as_str(), *want);
     }
     Ok(())
+}
+
+/// Each line's words are refused.
+fn assert_refused(rt: &(impl Abort + AllocGlobal), lines: &[&[&str]]) -> Result<(), Fail> {
+    for words in lines {
+        let found = read_line(rt.alloc(), words)?;
+        assert_eq!(rt; found.as_str(), REFUSED);
+    }
+    Ok(())
+}
+
+#[test]
+fn words_state_commands(rt: HostRuntime) -> Result<(), Fail> {
+    assert_commands(&rt, &RUNS)?;
+    assert_commands(&rt, &OTHERS)
+}
+
+#[test]
+fn words_that_are_no_command(rt: HostRuntime) -> Result<(), Fail> {
+    assert_refused(&rt, &REFUSED_COMMANDS)
+}
+
+#[test]
+fn numbers_out_of_range(rt: HostRuntime) -> Result<(), Fail> {
+    assert_refused(&rt, &REFUSED_NUMBERS)
+}
+
+#[test]
+fn options_of_other_commands(rt: HostRuntime) -> Result<(), Fail> {
+    assert_refused(&rt, &REFUSED_OPTIONS)
 }
 
 #[test]
