@@ -3,12 +3,14 @@
 ghost use Rattle.std.specs.Prelude.{◌≡◌, IfOk, map};
 ghost use Rattle.vocabulary.specs.Answers.{all_ok};
 ghost use Rattle.chain_forms.specs.Lowered as spec;
+ghost use Rattle.chain_laws.specs.Laws.{IsTermLowered, IsTermOnly, IsTermRefused};
 ghost use Rattle.index_notation.specs.Lowers.{Lowers};
 
 use crate::fault::LowerFault;
 use crate::lists::{push, reversed};
 use crate::statements::lowered_statements;
 use chain_forms::no_index_law;
+use chain_laws::term_law;
 use sim_syntax::{Decl, Lowered, Program};
 use sqlite_items::Items;
 use std::alloc::Global;
@@ -73,9 +75,13 @@ fn lowered_program(alloc: Global, program: Program) -> Result<Program, LowerFaul
 /// The program without index expressions that a program is lowered to: each index expression becomes a sum of products, and
 /// all else stays. Where an index expression isn't in chain form, the line of the first one.
 pub fn lower(alloc: Global, program: Program) -> Result<Lowered, LowerFault>
-    ensures { Lowers (spec.lowered program) result }
+    ensures answered { Lowers (spec.lowered program) result }
+    ensures holds { IsTermLowered }
+    ensures only { IsTermOnly }
+    ensures refused { IsTermRefused }
 {
     no_index_law();
+    term_law();
     let lowered = lowered_program(alloc, program)?;
     match Lowered::of(lowered) {
         Ok(lowered) => Ok(lowered),
