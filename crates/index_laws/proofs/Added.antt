@@ -22,6 +22,7 @@ use Rattle.index_sums.specs.IndexSums.{Name, Values}
 use Rattle.index_meaning.specs.Laws.{HasSizes, AreWithin}
 use Rattle.index_meaning.specs.TermSums.{entry_of}
 use Rattle.index_laws.specs.Fits.{Fits, height, width, rows_of, columns_of}
+use Rattle.index_laws.specs.Sizes.{SumsAreSized}
 use Rattle.index_laws.specs.SignedSums.{AreAlike, with_sign}
 use Rattle.index_laws.proofs.Answers.{same_Ok}
 use Rattle.index_laws.proofs.Words.{word_sum, word_neg, word_word}
@@ -164,6 +165,11 @@ tests_passed false b c left rho is = absurd (cc)
 tests_passed true false c left rho is = absurd (cc)
 tests_passed true true true left rho is = absurd (cc)
 tests_passed true true false left rho is = (refl, refl, same_Ok left rho is)
+
+pub sums_are_sized : SumsAreSized
+unfolding same_rule
+sums_are_sized sets t u rho is =
+    let tests = tests_passed (is_same_form t u) (is_over_the_same t u) (not (scale_of t == scale_of u)) t rho is in same_sized sets t u tests.0 tests.1
 
 -- two values that have a sum are of one size
 pub summed_sizes : (sets : List SetValue) (t u rho : NodeType) (v w : Value) → same_rule t u ≡ Ok rho → Fits sets t v → Fits sets u w

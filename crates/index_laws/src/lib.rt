@@ -4,7 +4,7 @@
 #![tactic(auto)]
 
 ghost use Rattle.index_laws.specs.Laws.{IsSumMeant, IsTermMeant};
-ghost use Rattle.index_laws.specs.Sizes.{AreSized};
+ghost use Rattle.index_laws.specs.Sizes.{AreSized, SumsAreSized};
 
 use chain_laws::term_law;
 use expression_forms::{meaning_form_law, typing_form_law};
@@ -24,9 +24,10 @@ pub fn index_expression_law()
 }
 
 /// The law of the sizes of values in the main procedure: where what names stand for has the size of its type, so has the value of
-/// each expression.
+/// each expression; and two values that have a sum are of one size.
 pub fn expression_size_law()
-    ensures { AreSized }
+    ensures values { AreSized }
+    ensures sums { SumsAreSized }
 {
     meaning_form_law();
     entry_law();

@@ -18,7 +18,7 @@ use Rattle.algebra_meaning.specs.Expression.{set_fields}
 use Rattle.algebra_meaning.specs.declared.state.State.{State}
 use Rattle.algebra_meaning.specs.declared.stopped.Stop.{Stop}
 use Rattle.run_laws.specs.Runs.{IsChanged, AreChanged, RunsTo, Repeats, Counts, AllRunTo, RunsProgram}
-use Rattle.run_laws.specs.Shapes.{Shape, shape_of, DiffersInWords, LeavesShapes, ChangesWords}
+use Rattle.run_laws.specs.Shapes.{Shape, shape_of, DiffersInWords, DifferInWords, LeavesShapes, ChangesWords, StatementsChangeWords}
 use Rattle.run_laws.proofs.Answered.{program_answered}
 
 -- ---- fields
@@ -147,7 +147,12 @@ by_shape before after same = record {
   columns = ap (λ s. s.columns) same;
 }
 
+by_shapes : (before after : List SetValue) → map shape_of after ≡ map shape_of before → DifferInWords before after
+by_shapes before after same =
+    record { count = same_count before after same; each = λ number. by_shape (set_at before number) (set_at after number) (same_shape before after number same) }
+
 pub changes_words : ChangesWords
-changes_words program sets after turns is =
-    let same = leaves_shapes program sets after turns is in
-    record { count = same_count sets after same; each = λ number. by_shape (set_at sets number) (set_at after number) (same_shape sets after number same) }
+changes_words program sets after turns is = by_shapes sets after (leaves_shapes program sets after turns is)
+
+pub statements_change_words : StatementsChangeWords
+statements_change_words program s before after runs = by_shapes before.sets after.sets (statement_leaves program s before (Ok after) runs)

@@ -2,8 +2,11 @@
 use Rattle.std.specs.Prelude.{◌≡◌, ℕ, List, length, map, Option, Ok}
 use Rattle.hypergraph.specs.SetValue.{SetValue}
 use Rattle.hypergraph.specs.Sets.{set_at}
+use Rattle.typed_tree.specs.declared.main_procedure.MainStmt.{MainStmt}
 use Rattle.typed_tree.specs.declared.program.TypedProgram.{TypedProgram}
 use Rattle.algebra_meaning.specs.Run.{run}
+use Rattle.algebra_meaning.specs.declared.state.State.{State}
+use Rattle.run_laws.specs.Runs.{RunsTo}
 
 -- a set but for its words: its elements, its endpoints, and how many columns it has
 pub record Shape : Type 0 where
@@ -36,3 +39,7 @@ LeavesShapes = (program : TypedProgram) (sets after : List SetValue) (turns : �
 -- the same of each set by its number
 abbrev pub ChangesWords : Type 0
 ChangesWords = (program : TypedProgram) (sets after : List SetValue) (turns : ℕ) → run program sets turns ≡ Ok after → DifferInWords sets after
+
+-- the same of a statement that ends
+abbrev pub StatementsChangeWords : Type 0
+StatementsChangeWords = (program : TypedProgram) (s : MainStmt) (before after : State) → RunsTo program s before (Ok after) → DifferInWords before.sets after.sets

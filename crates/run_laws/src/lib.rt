@@ -3,7 +3,7 @@
 #![tactic(auto)]
 
 ghost use Rattle.run_laws.specs.Laws.{AnswersOnly, IsAnswered, IsMapAnswered, IsStatementAnswered, MapAnswersOnly, StatementAnswersOnly};
-ghost use Rattle.run_laws.specs.Shapes.{ChangesWords, LeavesShapes};
+ghost use Rattle.run_laws.specs.Shapes.{ChangesWords, LeavesShapes, StatementsChangeWords};
 
 /// The laws of maps: the trap of the least element that traps, or the results of what all contribute.
 pub fn map_law()
@@ -23,4 +23,5 @@ pub fn run_law()
 pub fn shape_law()
     ensures shapes { LeavesShapes }
     ensures sets { ChangesWords }
+    ensures statements { StatementsChangeWords }
 {}
