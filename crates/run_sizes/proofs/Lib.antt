@@ -1,0 +1,9 @@
+mod Assigned
+mod Declared
+mod Known
+mod Lists
+mod Names
+mod Ran
+mod Reached
+mod Runs
+mod Sizes
