@@ -17,11 +17,12 @@ use Rattle.typed_tree.specs.Cost.{entries_in}
 use Rattle.value_algebra.specs.declared.value.Value.{Value}
 use Rattle.value_algebra.specs.Value.{word_at, word_of, each, both}
 use Rattle.value_laws.specs.Laws.{EntryLaws, IsWhole}
+use Rattle.algebra_meaning.specs.Assembled.{height, width}
 use Rattle.algebra_meaning.specs.Expression.{added}
 use Rattle.index_sums.specs.IndexSums.{Name, Values}
 use Rattle.index_meaning.specs.Laws.{HasSizes, AreWithin}
 use Rattle.index_meaning.specs.TermSums.{entry_of}
-use Rattle.index_laws.specs.Fits.{Fits, height, width, rows_of, columns_of}
+use Rattle.index_laws.specs.Fits.{Fits, rows_of, columns_of}
 use Rattle.index_laws.specs.Sizes.{SumsAreSized}
 use Rattle.index_laws.specs.SignedSums.{AreAlike, with_sign}
 use Rattle.index_laws.proofs.Answers.{same_Ok}

@@ -18,7 +18,8 @@ use Rattle.typed_tree.specs.Cost.{entries_in}
 use Rattle.value_algebra.specs.declared.value.Value.{Value}
 use Rattle.value_algebra.specs.Value.{number, word_of, each, both, product, times, transposed, dot}
 use Rattle.value_laws.specs.Laws.{EntryLaws}
-use Rattle.index_laws.specs.Fits.{Fits, HasBlocks, height, width}
+use Rattle.algebra_meaning.specs.Assembled.{height, width}
+use Rattle.index_laws.specs.Fits.{Fits, HasBlocks}
 use Rattle.index_laws.proofs.Added.{same_sized, tests_passed}
 use Rattle.index_laws.proofs.Answers.{same_Ok, same_Some}
 use Rattle.index_laws.proofs.Rules as rules

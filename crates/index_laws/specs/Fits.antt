@@ -2,7 +2,6 @@
 use Rattle.std.specs.Prelude.{◌≡◌, ℕ, ◌*◌, List, [], Option, Ok}
 use Rattle.hypergraph.specs.SetValue.{SetValue}
 use Rattle.hypergraph.specs.Sets.{set_at}
-use Rattle.type_rules.specs.declared.types.BlockShape.{BlockShape}
 use Rattle.type_rules.specs.declared.types.BlockShape.TheVariants as block
 use Rattle.type_rules.specs.declared.types.NodeType.{NodeType}
 use Rattle.type_rules.specs.declared.types.NodeType.TheVariants as type
@@ -13,18 +12,8 @@ use Rattle.typed_tree.specs.Expressions.{name_rule}
 use Rattle.typed_tree.specs.Names.{Name}
 use Rattle.value_algebra.specs.declared.value.Value.{Value}
 use Rattle.value_laws.specs.Laws.{IsWhole}
+use Rattle.algebra_meaning.specs.Assembled.{height, width}
 use Rattle.algebra_meaning.specs.Expression.{Scope, referred}
-
--- the rows and columns of a block; a vector is a column
-abbrev pub height : BlockShape → ℕ
-height block.Number = 1
-height (block.Vector side) = side
-height (block.Matrix rows columns) = rows
-
-abbrev pub width : BlockShape → ℕ
-width block.Number = 1
-width (block.Vector side) = 1
-width (block.Matrix rows columns) = columns
 
 -- the rows and columns of a value of a type, over sets: a system vector has an entry for each entry of each element's block
 abbrev pub rows_of : List SetValue → NodeType → ℕ

@@ -31,7 +31,7 @@ use Rattle.run_laws.specs.Maps.{MapsTo}
 use Rattle.run_laws.specs.Runs.{AreChanged, IsChanged, Yields, names_in}
 use Rattle.run_sizes.proofs.Known.{Known, is_main, known_declared, known_set, names_fit}
 use Rattle.run_sizes.proofs.Lists.{same_Some}
-use Rattle.run_sizes.proofs.Names.{declared_grows}
+use Rattle.run_sizes.proofs.Names.{declared_grows, in_turn}
 use Rattle.run_sizes.proofs.Sizes.{IsProper, results_fit}
 
 -- the results of each function are of blocks that may be declared
@@ -45,7 +45,7 @@ map_fits : (program : TypedProgram) (sets : List SetValue) (set : ℕ) (function
 map_fits program sets set function args values proper (MapsTo.all_contribute contributed all) =
     results_fit sets (flat_map contributed (range_with_len 0 (set_at sets set).count)) 0 function.results proper
 
-no_function : (function : TypedFunction) → None ≡ Some function → ⊥
+pub no_function : (function : TypedFunction) → None ≡ Some function → ⊥
 no_function function is = cc
 
 module _ (sized : AreSized) (program : TypedProgram) (proper : AreProper program.functions) where
@@ -111,9 +111,6 @@ module _ (sums : SumsAreSized) (program : TypedProgram) (sets : List SetValue) w
       targets_known env depth more others us' vs between last few rest goes fit (target_known env depth t type u v first between few one changed fits known)
 
   -- ---- new variables
-
-  in_turn : (a b c : ℕ) → a ≤ b → b ≤ c → a ≤ c
-  in_turn a b c first second = omega (arith, first, second)
 
   pub declared_known : (names : List Name) (types : List NodeType) (numbers : List ℕ) (walk end : Walk) (values : List Value) (before after : State)
       → length end.environment.declarations.variables ≤ length program.variables

@@ -31,7 +31,7 @@ use Rattle.typing_laws.specs.ResultSides.{AreTypedResults, IsTypedResult}
 use Rattle.typing_laws.specs.Scopes.{leaving}
 use Rattle.index_laws.specs.Sizes.{IsOfMain}
 use Rattle.run_laws.specs.Runs as runs
-use Rattle.run_sizes.proofs.Assigned.{AreProper}
+use Rattle.run_sizes.proofs.Assigned.{AreProper, no_function}
 use Rattle.run_sizes.proofs.Known.{KnownIn}
 use Rattle.run_sizes.proofs.Lists.{get_grown}
 use Rattle.run_sizes.proofs.Names.{GoesOn, found_after}
@@ -153,9 +153,6 @@ declarations_before ds walk after (AreDeclarations.one_more d rest here between 
 
 nothing_known : (what : Meaning) → None ≡ Some what → ⊥
 nothing_known what is = cc
-
-no_function : (function : TypedFunction) → None ≡ Some function → ⊥
-no_function function is = cc
 
 all_before : (ds : List Decl) (after : Walk) → AreDeclarations ds programs.at_first after → Before after
 all_before ds after are = declarations_before ds programs.at_first after are

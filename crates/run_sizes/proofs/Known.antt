@@ -36,7 +36,7 @@ use Rattle.index_laws.specs.Fits.{Fits, NamesFit}
 use Rattle.index_laws.specs.Sizes.{IsMain, IsOfMain}
 use Rattle.run_laws.specs.Shapes.{DifferInWords}
 use Rattle.run_sizes.proofs.Lists.{same_Some, get_last, get_past, get_set_other, get_set_same, get_taken, get_taken_last, length_grown, length_taken}
-use Rattle.run_sizes.proofs.Names.{Grows, found_after, type_appended, type_at}
+use Rattle.run_sizes.proofs.Names.{Grows, found_after, in_turn, type_appended, type_at}
 use Rattle.run_sizes.proofs.Sizes.{field_fits, still_fits}
 
 abbrev answer : {A : Type 0} (E : Type 0) → A → Result A E
@@ -144,9 +144,6 @@ known_again program sets later before inner depth deeper variables locals vs ls 
   deep = in_turn depth deeper (length ls) grows.locals there.deep;
   count = there.count;
 }
-  where
-    in_turn : (a b c : ℕ) → a ≤ b → b ≤ c → a ≤ c
-    in_turn a b c first second = omega (arith, first, second)
 
 -- with more declared, but no name
 pub known_later : (program : TypedProgram) (sets : List SetValue) (before inner : Environment) (depth deeper : ℕ) (variables locals : List Value)

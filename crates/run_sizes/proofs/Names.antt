@@ -80,13 +80,13 @@ pub record Grows (before after : Environment) (depth deeper : ℕ) : Type 0 wher
 abbrev pub GoesOn : Walk → Walk → Type 0
 GoesOn before after = Grows before.environment after.environment before.locals after.locals
 
-itself : (n : ℕ) → n ≤ n
+pub itself : (n : ℕ) → n ≤ n
 itself n = omega arith
 
 one_less : (n m : ℕ) → suc n ≤ m → n ≤ m
 one_less n m below = omega (arith, below)
 
-in_turn : (a b c : ℕ) → a ≤ b → b ≤ c → a ≤ c
+pub in_turn : (a b c : ℕ) → a ≤ b → b ≤ c → a ≤ c
 in_turn a b c first second = omega (arith, first, second)
 
 grown_by_one : (n m : ℕ) → m ≡ suc n → n ≤ m

@@ -1,5 +1,5 @@
 -- Wherever a run comes, names fit; so index expressions mean their sums there.
-use Rattle.std.proofs.Common.{ℕ, ◌≤◌, List, length, arith}
+use Rattle.std.proofs.Common.{ℕ, List, length}
 use Rattle.hypergraph.specs.SetValue.{SetValue}
 use Rattle.typed_tree.specs.declared.program.TypedProgram.{TypedProgram}
 use Rattle.typing_laws.specs.Laws.{ExpressionLaws}
@@ -13,10 +13,8 @@ use Rattle.run_sizes.specs.Laws.{AreMeantInRuns, FitInRuns}
 use Rattle.run_sizes.specs.Reaches.{Begun, Reaches}
 use Rattle.run_sizes.proofs.Declared.{known_first, proper_functions}
 use Rattle.run_sizes.proofs.Known.{KnownIn, names_fit}
+use Rattle.run_sizes.proofs.Names.{itself}
 use Rattle.run_sizes.proofs.Runs.{come_on, list_begun}
-
-itself : (n : ℕ) → n ≤ n
-itself n = omega arith
 
 module _ (sized : AreSized) (sums : SumsAreSized) (changes : StatementsChangeWords) where
   known_there : (program : TypedProgram) (sets : List SetValue) (turns : ℕ) (begun : Begun) → Reaches program sets turns begun → KnownIn program begun.walk begun.state

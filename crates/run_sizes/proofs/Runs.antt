@@ -1,5 +1,5 @@
 -- What is known goes on from each statement of a run to the next, and into the statements inside.
-use Rattle.std.proofs.Common.{◌⊎◌, ℕ, suc, ◌≤◌, List, length, Result, Ok, Err, subst, arith, inl, inr}
+use Rattle.std.proofs.Common.{◌⊎◌, ℕ, suc, ◌≤◌, List, length, Result, Ok, Err, subst, inl, inr}
 use Rattle.sim_syntax.specs.declared.statement.Stmt.{Stmt}
 use Rattle.typed_tree.specs.declared.condition.TypedCond.{TypedCond}
 use Rattle.typed_tree.specs.declared.environment.Walk.{Walk}
@@ -19,7 +19,7 @@ use Rattle.run_laws.specs.Shapes.{StatementsChangeWords}
 use Rattle.run_sizes.specs.Reaches.{Begun, Comes, ComesCounting, AllCome, in_turn_of, with_turns}
 use Rattle.run_sizes.proofs.Assigned.{AreProper, declared_known, right_fits, targets_known}
 use Rattle.run_sizes.proofs.Known.{KnownIn, known_again, known_counting, known_later, known_over}
-use Rattle.run_sizes.proofs.Names.{GoesOn, counter_grows, goes_on, left, list_grows, statement_grows}
+use Rattle.run_sizes.proofs.Names.{GoesOn, counter_grows, goes_on, in_turn, left, list_grows, statement_grows}
 use Rattle.run_sizes.proofs.Ran.{var_ran, assign_ran, while_ran, for_ran, if_ran, assert_ran}
 
 -- ---- loops
@@ -49,9 +49,6 @@ counted program P local to body from before outcome turn (Counts.for_goes_on i n
 
 -- ---- statements
 
-in_turn : (a b c : ℕ) → a ≤ b → b ≤ c → a ≤ c
-in_turn a b c first second = omega (arith, first, second)
-
 -- there are no more variables than the program has
 abbrev IsWithin : TypedProgram → Walk → Type 0
 IsWithin program walk = length walk.environment.declarations.variables ≤ length program.variables
@@ -59,10 +56,6 @@ IsWithin program walk = length walk.environment.declarations.variables ≤ lengt
 within : (program : TypedProgram) (before after : Walk) → GoesOn before after → IsWithin program after → IsWithin program before
 within program before after grows few =
     in_turn (length before.environment.declarations.variables) (length after.environment.declarations.variables) (length program.variables) grows.count few
-
--- what is known before a statement, over the values of a state
-abbrev KnownHere : TypedProgram → Walk → State → Type 0
-KnownHere program walk state = KnownIn program walk state
 
 again : (program : TypedProgram) (walk inner : Walk) (state after : State) → GoesOn walk inner → KnownIn program walk state → KnownIn program inner after → KnownIn program walk after
 again program walk inner state after grows here there =
@@ -149,14 +142,14 @@ module _ (sized : AreSized) (sums : SumsAreSized) (changes : StatementsChangeWor
     statement_known s t walk after state end (IsMainTyping.repetition line cond body tested done here to inner typed one room) runs few known =
         let grows = list_grows body done (with_nodes here to) inner one in
         later program here inner end grows
-        (repeated program (KnownHere program here) line tested done state (Ok end)
+        (repeated program (KnownIn program here) line tested done state (Ok end)
         (λ turn few' next known' ran. again program here inner turn next grows known' (list_known body done (with_nodes here to) inner (with_turns turn few') next one ran few known'))
         (while_ran program state end line tested done runs) known)
     statement_known s t walk after state end (IsMainTyping.loop line name from to body f u done here middle last inner first second f_is u_is new typed room) runs few known =
         let grows = counter_on here inner last name new (list_grows body done (counter here last name) inner typed) in
         let went = for_ran program state end line here.locals f u done runs in
         later program here inner end grows
-        (counted program (KnownHere program here) here.locals went.to done went.from state (Ok end)
+        (counted program (KnownIn program here) here.locals went.to done went.from state (Ok end)
         (λ turn word few' next known' ran.
         again program here inner turn next grows known'
         (list_known body done (counter here last name) inner (in_turn_of turn here.locals word few') next typed ran few (counting program here last name turn word few' known')))

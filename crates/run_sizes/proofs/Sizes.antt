@@ -24,10 +24,9 @@ use Rattle.typing_laws.specs.Lists.{Each, Matched}
 use Rattle.value_algebra.specs.declared.value.Value.{Value}
 use Rattle.value_algebra.specs.Fields.{block_in, block_of, element_words, entry_of, field_over, first_column}
 use Rattle.value_laws.specs.Laws.{IsWhole}
-use Rattle.algebra_meaning.specs.Assembled as assembly
-use Rattle.algebra_meaning.specs.Assembled.{all_assembled, assembled, elements_of, entry, row_entries}
+use Rattle.algebra_meaning.specs.Assembled.{all_assembled, assembled, elements_of, entry, height, row_entries, width}
 use Rattle.algebra_meaning.specs.declared.contribution.Contribution.{Contribution}
-use Rattle.index_laws.specs.Fits.{Fits, HasBlocks, columns_of, height, rows_of, width}
+use Rattle.index_laws.specs.Fits.{Fits, HasBlocks, columns_of, rows_of}
 use Rattle.run_laws.specs.Shapes.{DifferInWords}
 use Rattle.run_sizes.proofs.Lists.{same_Some, pieces_length}
 
@@ -102,30 +101,28 @@ unfolding assembled
 assembled_whole sets contributed number result =
     let rows = (set_at sets result.rows.set).count in
     let columns = elements_of sets result.columns in
-    let tall = assembly.height result.block in
-    let wide = assembly.width result.block in
+    let tall = height result.block in
+    let wide = width result.block in
     pieces_length (λ row. flat_map (row_entries contributed number columns wide row) (range_with_len 0 tall)) (tall * (columns * wide)) rows 0
     (λ row. pieces_length (row_entries contributed number columns wide row) (columns * wide) tall 0
     (λ r. pieces_length (λ column. map (λ c. entry contributed number row column r c) (range_with_len 0 wide)) wide columns 0
     (λ column. length-map-range_with_len (λ c. entry contributed number row column r c) 0 wide)))
     ∙ sym (mul_assoc rows tall (columns * wide))
 
-tall_vector : (b : BlockShape) → IsVectorBlock b → assembly.height b ≡ entries_in b
+tall_vector : (b : BlockShape) → IsVectorBlock b → height b ≡ entries_in b
 tall_vector block.Number proper = refl
 tall_vector (block.Vector n) proper = refl
 tall_vector (block.Matrix m n) proper = absurd proper
 
-wide_vector : (b : BlockShape) → IsVectorBlock b → 1 * assembly.width b ≡ 1
+wide_vector : (b : BlockShape) → IsVectorBlock b → 1 * width b ≡ 1
 wide_vector block.Number proper = refl
 wide_vector (block.Vector n) proper = refl
 wide_vector (block.Matrix m n) proper = absurd proper
 
-matrix_rows : (sets : List SetValue) (rows columns : ℕ) (b : BlockShape) (scale : ℕ) → IsMatrixBlock b
-    → ((set_at sets rows).count * assembly.height b ≡ rows_of sets (type.SystemMatrix rows columns b scale))
-    × ((set_at sets columns).count * assembly.width b ≡ columns_of sets (type.SystemMatrix rows columns b scale)) × HasBlocks (type.SystemMatrix rows columns b scale)
-matrix_rows sets rows columns block.Number scale proper = (refl, refl, tt)
-matrix_rows sets rows columns (block.Vector n) scale proper = absurd proper
-matrix_rows sets rows columns (block.Matrix m n) scale proper = (refl, refl, tt)
+matrix_blocks : (rows columns : ℕ) (b : BlockShape) (scale : ℕ) → IsMatrixBlock b → HasBlocks (type.SystemMatrix rows columns b scale)
+matrix_blocks rows columns block.Number scale proper = tt
+matrix_blocks rows columns (block.Vector n) scale proper = absurd proper
+matrix_blocks rows columns (block.Matrix m n) scale proper = tt
 
 parts_fit : (sets : List SetValue) (contributed : List Contribution) (number : ℕ) (rows : ResultSide) (columns : Option ResultSide) (b : BlockShape) (scale : ℕ)
     → IsProperOver columns b
@@ -138,14 +135,12 @@ parts_fit sets contributed number rows None b scale proper = record {
   columns = wide_vector b proper;
   blocks = tt;
 }
-parts_fit sets contributed number rows (Some columns) b scale proper =
-    let sizes = matrix_rows sets rows.set columns.set b scale proper in
-    record {
-      whole = assembled_whole sets contributed number (record { rows = rows; columns = Some columns; block = b; scale = scale });
-      rows = sizes.0;
-      columns = sizes.1;
-      blocks = sizes.2;
-    }
+parts_fit sets contributed number rows (Some columns) b scale proper = record {
+  whole = assembled_whole sets contributed number (record { rows = rows; columns = Some columns; block = b; scale = scale });
+  rows = refl;
+  columns = refl;
+  blocks = matrix_blocks rows.set columns.set b scale proper;
+}
 
 pub results_fit : (sets : List SetValue) (contributed : List Contribution) (number : ℕ) (results : List TypedResult) → Each IsProper results
     → Matched (Fits sets) (map result_type results) (all_assembled sets contributed number results)
