@@ -2,6 +2,7 @@
 
 ghost use Rattle.vocabulary.specs.Answers.{Answers};
 ghost use Rattle.run_laws.specs.Laws.{AnswersOnly, IsAnswered};
+ghost use Rattle.run_sizes.specs.Laws.{AreMeantInRuns, FitInRuns};
 ghost use Rattle.global_algebra.specs.Ending.{plain_answer};
 ghost use Rattle.global_algebra.specs.declared.plain_run.PlainFault.TheVariants.{Memory};
 
@@ -12,6 +13,7 @@ use block_types::Typed;
 use dense_sizes::{MOST_DENSE_WORDS, dense_words};
 use hypergraph::Sets;
 use run_laws::run_law;
+use run_sizes::run_size_law;
 use std::alloc::Global;
 use thiserror::Error;
 
@@ -26,15 +28,19 @@ pub enum PlainFault {
 }
 
 /// How a program ends over sets, each matrix dense, the elements in their order, with so many turns: what the run is by
-/// its definition, which is the one outcome that the run has as a relation by cases. `OverDense` exactly where its
+/// its definition, which is the one outcome that the run has as a relation by cases. Wherever a run comes, what names stand
+/// for has the sizes of their types, and index expressions mean their sums. `OverDense` exactly where its
 /// dense matrices have too many words, unless memory runs out before.
 #[tactic(auto, unfolding(crate::specs::Ending::plain_answer))]
 pub fn plain(alloc: Global, typed: &Typed, sets: Sets, turns: u32) -> Result<Ending, PlainFault>
     ensures answered { Answers Memory (plain_answer typed.now sets turns) result }
     ensures holds { IsAnswered }
     ensures only { AnswersOnly }
+    ensures fit { FitInRuns }
+    ensures meant { AreMeantInRuns }
 {
     run_law();
+    run_size_law();
     let program = typed.typed_program();
     if dense_words(program, &sets) > u128::from(MOST_DENSE_WORDS) {
         return Err(PlainFault::OverDense);
