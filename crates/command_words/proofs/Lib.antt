@@ -7,3 +7,4 @@ mod Parses
 mod Rows
 mod Values
 mod Walking
+pub mod Points

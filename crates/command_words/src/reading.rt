@@ -1,8 +1,9 @@
-ghost use Rattle.std.specs.Prelude.{◌≡◌, map, string_bytes};
+ghost use Rattle.std.specs.Prelude.{◌≡◌, IfOk, map, string_bytes};
 ghost use Rattle.vocabulary.specs.Answers.{Answers};
 ghost use Rattle.command_words.specs.Arguments.{value_of};
 ghost use Rattle.command_words.specs.Commands.{stated, words_of};
 ghost use Rattle.command_words.specs.Form.{FormLaw};
+ghost use Rattle.command_words.specs.Job.{HasPoints};
 ghost use Rattle.command_words.specs.Parsing.{IsAccepted};
 ghost use Rattle.command_words.specs.declared.command.WordsFault.TheVariants.{Memory};
 
@@ -19,9 +20,10 @@ use std::alloc::Global;
 
 /// The command that the words state, or that they are refused. Whatever words give options and positional words, those
 /// of one form state the same command: each option with its value as one word, then `--`, then the positional words.
-#[tactic(auto, using(crate::proofs::Form::form_law))]
+#[tactic(auto, using(crate::proofs::Form::form_law, crate::proofs::Points::of_answer))]
 pub fn read(alloc: Global, words: &[String]) -> Result<Words, WordsFault>
     ensures value { Answers Memory (words_of (map string_bytes words.now)) result }
+    ensures points { IfOk result HasPoints }
     ensures form { FormLaw }
 {
     read_words(alloc, words)

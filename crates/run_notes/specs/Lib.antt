@@ -1,2 +1,3 @@
-pub mod Command
+pub mod Limits
+pub mod Named
 pub mod Notes

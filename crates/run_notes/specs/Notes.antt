@@ -16,8 +16,8 @@ use Rattle.sim_lexer.specs.declared.token.LexFault.TheVariants as fault
 use Rattle.type_rules.specs.declared.types.TypeKind.{TypeKind}
 use Rattle.type_rules.specs.declared.types.TypeKind.TheVariants as kind
 use Rattle.dense_sizes.specs.declared.limit.TheConstants.{MOST_DENSE_WORDS}
-use Rattle.run_notes.specs.Command.{limit_of}
-use Rattle.run_notes.specs.declared.limits.TheConstants.{USUAL_TURNS}
+use Rattle.run_notes.specs.Limits.{limit_of}
+use Rattle.run_notes.specs.Named.{Named}
 use Rattle.run_notes.specs.declared.role.FileRole.{FileRole}
 use Rattle.run_notes.specs.declared.role.FileRole.TheVariants as role
 use Rattle.run_notes.specs.declared.failure.Refusal.{Refusal}
@@ -26,7 +26,7 @@ use Rattle.run_notes.specs.declared.failure.Failure.{Failure}
 use Rattle.run_notes.specs.declared.failure.Failure.TheVariants.{Memory, ReadFault, Refused}
 
 abbrev pub usage_note : List ℕ
-usage_note = codes "usage: simit run PROGRAM SETS..\n"
+usage_note = codes "usage: simit run|plan|plain PROGRAM SETS.. or simit make SEED N\n"
 
 abbrev pub memory_note : List ℕ
 memory_note = codes "no memory\n"
@@ -107,30 +107,32 @@ abbrev pub trap_note : ℕ → Option ℕ → TrapKind → List ℕ
 trap_note line None kind = concat (codes "trap at line " ∷ decimal line ∷ trap_words kind ∷ [])
 trap_note line (Some element) kind = concat (codes "trap at line " ∷ decimal line ∷ codes ", element " ∷ decimal element ∷ trap_words kind ∷ [])
 
--- the note line of a run that stops before its end
-abbrev pub stop_note : Stop → List ℕ
-stop_note (stop.Trap line element kind) = trap_note line element kind
-stop_note stop.Spent = concat (codes "spent: " ∷ decimal USUAL_TURNS ∷ codes " turns\n" ∷ [])
+-- the note line of a run that stops before its end, by the turns that it had
+abbrev pub stop_note : ℕ → Stop → List ℕ
+stop_note turns (stop.Trap line element kind) = trap_note line element kind
+stop_note turns stop.Spent = concat (codes "spent: " ∷ decimal turns ∷ codes " turns\n" ∷ [])
 
--- the note line of a refusal, by the names of the files
-abbrev pub refusal_note : (FileRole → List ℕ) → Refusal → List ℕ
+-- the note line of a refusal, by what the command names
+abbrev pub refusal_note : Named → Refusal → List ℕ
 refusal_note names refusal.Words = usage_note
+refusal_note names refusal.NotYet = codes "refused: not yet\n"
 refusal_note names (refusal.FileLimit role) =
-    concat (codes "limit: " ∷ names role ∷ codes " is over " ∷ decimal (limit_of role) ∷ codes " bytes\n" ∷ [])
+    concat (codes "limit: " ∷ names.file role ∷ codes " is over " ∷ decimal (limit_of role) ∷ codes " bytes\n" ∷ [])
 refusal_note names (refusal.Lexical line fault) = place_note line (codes ", byte ") (offset_of fault) (lexical_words fault)
 refusal_note names (refusal.Syntax line token) = place_note line (codes ", token ") token (codes ": syntax\n")
 refusal_note names (refusal.NotAChain line) = line_note line (codes ": not a chain\n")
 refusal_note names (refusal.IllTyped line kind) = line_note line (kind_words kind)
+refusal_note names refusal.NoSuchSet = concat (codes "refused: no set " ∷ names.only ∷ codes "\n" ∷ [])
 refusal_note names (refusal.FileCount files sets) =
     concat (codes "refused: " ∷ decimal files ∷ codes " files for " ∷ decimal sets ∷ codes " sets\n" ∷ [])
-refusal_note names (refusal.Table number fault) = table_note (names (role.Table number)) fault
+refusal_note names (refusal.Table number fault) = table_note (names.file (role.Table number)) fault
 refusal_note names refusal.DenseWords = concat (codes "limit: dense words over " ∷ decimal MOST_DENSE_WORDS ∷ codes "\n" ∷ [])
-refusal_note names (refusal.Stopped stop) = stop_note stop
+refusal_note names (refusal.Stopped stop) = stop_note names.turns stop
 
 -- the note line of an answer that is no output
-abbrev pub note_of : (FileRole → List ℕ) → Failure → List ℕ
+abbrev pub note_of : Named → Failure → List ℕ
 note_of names Memory = memory_note
-note_of names (ReadFault role) = concat (codes "read fault: " ∷ names role ∷ codes "\n" ∷ [])
+note_of names (ReadFault role) = concat (codes "read fault: " ∷ names.file role ∷ codes "\n" ∷ [])
 note_of names (Refused refusal) = refusal_note names refusal
 
 -- A note line was put: whole, or a prefix of it where a fault of the notes was counted.

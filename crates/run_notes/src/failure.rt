@@ -12,6 +12,8 @@ use type_rules::TypeKind;
 pub enum Refusal {
     /// The words are no command.
     Words,
+    /// The command is none that this program runs yet.
+    NotYet,
     /// The file has too many bytes.
     FileLimit(FileRole),
     /// The program's text can't be cut into tokens: the line of the byte that the fault names.
@@ -22,6 +24,8 @@ pub enum Refusal {
     NotAChain { line: u32 },
     /// A node of this line has no type.
     IllTyped { line: u32, kind: TypeKind },
+    /// The program has no set of the name to which the output is limited.
+    NoSuchSet,
     /// There are so many tables for another number of sets.
     FileCount { files: usize, sets: usize },
     /// The table of the set of this number states no set.

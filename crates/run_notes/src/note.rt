@@ -3,18 +3,17 @@
 ghost use Rattle.std.specs.Prelude.{◌≡◌, ◌≤◌, [], ◌∷◌, map, codes, decimal};
 ghost use Rattle.std.specs.List.{concat};
 ghost use Rattle.simit_io.specs.Inputs.{Rose};
-ghost use Rattle.run_notes.specs.Command.{file_name, shown};
-ghost use Rattle.run_notes.specs.Command as spec;
+ghost use Rattle.run_notes.specs.Limits as spec;
+ghost use Rattle.run_notes.specs.Named.{named_by};
 ghost use Rattle.run_notes.specs.Notes.{PutsNote, cell_note, cell_words, file_note, kind_words, lexical_words, line_note, memory_note, note_of, offset_of, place_note, refusal_note, row_note, stop_note, table_note, trap_note, trap_words, usage_note, write_fault_note};
 ghost use Rattle.vocabulary.specs.declared.limits.TheConstants.{MOST_ELEMENTS};
 ghost use Rattle.dense_sizes.specs.declared.limit.TheConstants.{MOST_DENSE_WORDS};
-ghost use Rattle.run_notes.specs.declared.limits.TheConstants.{USUAL_TURNS};
 
-use crate::command::Command;
 use crate::failure::{Failure, Refusal};
-use crate::limits::USUAL_TURNS;
+use crate::named::{file_name, only_name, turns_of};
 use crate::role::{FileRole, limit_of};
 use algebra_meaning::Stop;
+use command_words::Words;
 use dense_sizes::MOST_DENSE_WORDS;
 use itoa::Buffer;
 use ring_words::{CellFault, TrapKind};
@@ -161,7 +160,10 @@ pub fn put_usage<N: Sink>(notes: &mut N)
     ensures note { PutsNote (N.written notes.old) (N.written notes.new) (Rose (N.faults notes.old) (N.faults notes.new)) usage_note }
     ensures counted { N.faults notes.old ≤ N.faults notes.new }
 {
-    put_pieces(notes, &["usage: simit run PROGRAM SETS..\n"]);
+    put_pieces(
+        notes,
+        &["usage: simit run|plan|plain PROGRAM SETS.. or simit make SEED N\n"],
+    );
 }
 
 /// Puts the line of a table with more rows than a set may have elements.
@@ -317,18 +319,18 @@ fn put_trap<N: Sink>(notes: &mut N, line: u32, element: Option<u32>, kind: TrapK
 }
 
 /// Puts the line of turns that are spent.
-fn put_spent<N: Sink>(notes: &mut N)
+fn put_spent<N: Sink>(notes: &mut N, turns: u32)
     ensures note { PutsNote (N.written notes.old) (N.written notes.new) (Rose (N.faults notes.old) (N.faults notes.new))
-        (concat (codes "spent: " ∷ decimal USUAL_TURNS ∷ codes " turns\n" ∷ [])) }
+        (concat (codes "spent: " ∷ decimal turns ∷ codes " turns\n" ∷ [])) }
     ensures counted { N.faults notes.old ≤ N.faults notes.new }
 {
-    let mut turns = Buffer::new();
-    put_three(notes, "spent: ", turns.format(USUAL_TURNS), " turns\n");
+    let mut of_turns = Buffer::new();
+    put_three(notes, "spent: ", of_turns.format(turns), " turns\n");
 }
 
 /// Puts the line of a run that stops before its end.
-fn put_stop<N: Sink>(notes: &mut N, stop: Stop)
-    ensures note { PutsNote (N.written notes.old) (N.written notes.new) (Rose (N.faults notes.old) (N.faults notes.new)) (stop_note stop) }
+fn put_stop<N: Sink>(notes: &mut N, turns: u32, stop: Stop)
+    ensures note { PutsNote (N.written notes.old) (N.written notes.new) (Rose (N.faults notes.old) (N.faults notes.new)) (stop_note turns stop) }
     ensures counted { N.faults notes.old ≤ N.faults notes.new }
 {
     match stop {
@@ -337,18 +339,19 @@ fn put_stop<N: Sink>(notes: &mut N, stop: Stop)
             element,
             kind,
         } => put_trap(notes, line, element, kind),
-        Stop::Spent => put_spent(notes),
+        Stop::Spent => put_spent(notes, turns),
     }
 }
 
 /// Puts the line of a refusal.
-fn put_refusal<N: Sink>(notes: &mut N, command: Command<'_>, refusal: Refusal)
-    ensures note { PutsNote (N.written notes.old) (N.written notes.new) (Rose (N.faults notes.old) (N.faults notes.new)) (refusal_note (file_name (shown command.entry)) refusal) }
+fn put_refusal<N: Sink>(notes: &mut N, words: &Words, refusal: Refusal)
+    ensures note { PutsNote (N.written notes.old) (N.written notes.new) (Rose (N.faults notes.old) (N.faults notes.new)) (refusal_note (named_by words.now) refusal) }
     ensures counted { N.faults notes.old ≤ N.faults notes.new }
 {
     match refusal {
         Refusal::Words => put_usage(notes),
-        Refusal::FileLimit(role) => put_limit(notes, command.file_name(role), role),
+        Refusal::NotYet => put_pieces(notes, &["refused: not yet\n"]),
+        Refusal::FileLimit(role) => put_limit(notes, file_name(words, role), role),
         Refusal::Lexical { line, fault } => put_place(
             notes,
             line,
@@ -361,24 +364,33 @@ fn put_refusal<N: Sink>(notes: &mut N, command: Command<'_>, refusal: Refusal)
         }
         Refusal::NotAChain { line } => put_line(notes, line, ": not a chain\n"),
         Refusal::IllTyped { line, kind } => put_line(notes, line, kind_words(kind)),
+        Refusal::NoSuchSet => put_three(notes, "refused: no set ", only_name(words), "\n"),
         Refusal::FileCount { files, sets } => put_file_count(notes, files, sets),
         Refusal::Table { set, fault } => {
-            put_table_fault(notes, command.file_name(FileRole::Table(set)), fault);
+            put_table_fault(notes, file_name(words, FileRole::Table(set)), fault);
         }
         Refusal::DenseWords => put_dense_words(notes),
-        Refusal::Stopped(stop) => put_stop(notes, stop),
+        Refusal::Stopped(stop) => put_stop(notes, turns_of(words), stop),
     }
 }
 
+/// Puts the line of a call that ran out of memory, as far as the sink takes it.
+pub fn put_memory<N: Sink>(notes: &mut N)
+    ensures note { PutsNote (N.written notes.old) (N.written notes.new) (Rose (N.faults notes.old) (N.faults notes.new)) memory_note }
+    ensures counted { N.faults notes.old ≤ N.faults notes.new }
+{
+    put_pieces(notes, &["no memory\n"]);
+}
+
 /// Puts the note line of an answer that is no output, as far as the sink takes it.
-pub fn put_note<N: Sink>(notes: &mut N, command: Command<'_>, failure: Failure)
-    ensures note { PutsNote (N.written notes.old) (N.written notes.new) (Rose (N.faults notes.old) (N.faults notes.new)) (note_of (file_name (shown command.entry)) failure) }
+pub fn put_note<N: Sink>(notes: &mut N, words: &Words, failure: Failure)
+    ensures note { PutsNote (N.written notes.old) (N.written notes.new) (Rose (N.faults notes.old) (N.faults notes.new)) (note_of (named_by words.now) failure) }
     ensures counted { N.faults notes.old ≤ N.faults notes.new }
 {
     match failure {
-        Failure::Memory => put_pieces(notes, &["no memory\n"]),
-        Failure::ReadFault(role) => put_three(notes, "read fault: ", command.file_name(role), "\n"),
-        Failure::Refused(refusal) => put_refusal(notes, command, refusal),
+        Failure::Memory => put_memory(notes),
+        Failure::ReadFault(role) => put_three(notes, "read fault: ", file_name(words, role), "\n"),
+        Failure::Refused(refusal) => put_refusal(notes, words, refusal),
     }
 }
 

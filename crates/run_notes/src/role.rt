@@ -1,7 +1,7 @@
 //! Which file of a command.
 
 ghost use Rattle.std.specs.Prelude.{◌≡◌};
-ghost use Rattle.run_notes.specs.Command.{limit_of};
+ghost use Rattle.run_notes.specs.Limits.{limit_of};
 
 use vocabulary::limits::{MOST_PROGRAM_BYTES, MOST_TABLE_BYTES};
 

@@ -8,9 +8,8 @@ use Rattle.vocabulary.specs.Answers.{Answers}
 use Rattle.simit_io.specs.Inputs.{Files, Rose}
 use Rattle.hypergraph.specs.SetValue.{SetValue}
 use Rattle.typed_tree.specs.declared.program.TypedProgram.{TypedProgram}
-use Rattle.simit_run.specs.Answer.{command_stage, names_for, program_stage, set_in, set_stage, tables_stage, with_set}
-use Rattle.run_notes.specs.Command.{Command}
-use Rattle.simit_run.specs.Output.{output_of}
+use Rattle.simit_run.specs.Answer.{files_stage, names_for, program_stage, set_in, set_stage, tables_stage, typed_stage, with_set}
+use Rattle.simit_run.specs.Output.{chosen_in, output_of}
 use Rattle.simit_run.specs.ProgramText.{typed_of}
 use Rattle.simit_run.specs.Shown.{GoesOn, Shows, ShowsFailure}
 use Rattle.simit_run.specs.Stage.{Stage, decided, file, fold_stages, refused, ◌>>=◌}
@@ -57,13 +56,6 @@ module _ (known : Option Files) (rose : Type 0) (program : TypedProgram) (sets :
 -- ---- one table after another
 
 -- the name of the file of a number
-pub name_at : (names : List (String Global)) (k : ℕ) (name : String Global) → k < length names → name ≡ get_or names k name
-    → (k < length (map string_bytes names)) × (string_bytes name ≡ get_or (map string_bytes names) k (string_bytes name))
-name_at names k name within called =
-    let size : length (map string_bytes names) ≡ length names = length-map names string_bytes in
-    let text : get_or (map string_bytes names) k (string_bytes name) ≡ string_bytes name = get_or-map string_bytes names k name (string_bytes name) within ∙ ap string_bytes (sym called) in
-    (omega arith, sym text)
-
 module _ (program : TypedProgram) where
   -- the next set was read
   pub next_read : (known : Option Files) (names : List (List ℕ)) (k : ℕ) (sets : List SetValue) (name : List ℕ) (set : SetValue) → k < length names → name ≡ get_or names k name
@@ -124,13 +116,13 @@ unfolding names_for
 names-differ program tables differs =
     ap (λ b. if b then Ok tables else Err (FileCount (length tables) (length program.sets))) (ne_eqb (length tables) (length program.sets) differs)
 
-module _ (known : Option Files) (rose : Type 0) (program : TypedProgram) (tables : List (List ℕ)) where
+module _ (known : Option Files) (rose : Type 0) (program : TypedProgram) (turns : ℕ) (chosen : Option ℕ) (tables : List (List ℕ)) where
   -- the stages after the names
   abbrev on_names : List (List ℕ) → Stage (List ℕ)
-  on_names names = fold_stages (with_set program) [] names >>= λ sets. decided (output_of program sets)
+  on_names names = fold_stages (with_set program) [] names >>= λ sets. decided (output_of program turns chosen sets)
 
   -- another number of tables than of sets
-  pub count_differs : ((length tables ≡ length program.sets) → ⊥) → ShowsFailure known rose (tables_stage program tables) (Refused (FileCount (length tables) (length program.sets)))
+  pub count_differs : ((length tables ≡ length program.sets) → ⊥) → ShowsFailure known rose (tables_stage program turns chosen tables) (Refused (FileCount (length tables) (length program.sets)))
   unfolding tables_stage
   count_differs differs =
       fails_first known rose rose (decided (names_for program tables)) on_names (Refused (FileCount (length tables) (length program.sets))) (λ r. r)
@@ -140,48 +132,71 @@ module _ (known : Option Files) (rose : Type 0) (program : TypedProgram) (tables
   given_names same = gives_decided known (names_for program tables) tables (ap refused (names-given program tables same))
 
   -- a table fails
-  pub tables_fail : length tables ≡ length program.sets → (failure : Failure) → ShowsFailure known rose (fold_stages (with_set program) [] tables) failure → ShowsFailure known rose (tables_stage program tables) failure
+  pub tables_fail : length tables ≡ length program.sets → (failure : Failure) → ShowsFailure known rose (fold_stages (with_set program) [] tables) failure → ShowsFailure known rose (tables_stage program turns chosen tables) failure
   unfolding tables_stage
   tables_fail same failure shown =
       shows_whole {X = List ℕ} (λ text. text) known rose rose (decided (names_for program tables) >>= on_names) (on_names tables) (Err failure) (λ r. r)
       (goes_next known (decided (names_for program tables)) on_names tables (given_names same))
-      (fails_first known rose rose (fold_stages (with_set program) [] tables) (λ sets. decided (output_of program sets)) failure (λ r. r) shown)
+      (fails_first known rose rose (fold_stages (with_set program) [] tables) (λ sets. decided (output_of program turns chosen sets)) failure (λ r. r) shown)
 
   -- all are read, and what is put out of them is left
   all_read : length tables ≡ length program.sets → (sets : List SetValue) → IfSome known (λ files. (fold_stages (with_set program) [] tables).answer files ≡ Ok sets)
-      → GoesOn known (tables_stage program tables) (decided (output_of program sets))
+      → GoesOn known (tables_stage program turns chosen tables) (decided (output_of program turns chosen sets))
   unfolding tables_stage
   all_read same sets given =
-      goes_further known (decided (names_for program tables) >>= on_names) (on_names tables) (decided (output_of program sets))
+      goes_further known (decided (names_for program tables) >>= on_names) (on_names tables) (decided (output_of program turns chosen sets))
       (goes_next known (decided (names_for program tables)) on_names tables (given_names same))
-      (goes_next known (fold_stages (with_set program) [] tables) (λ sets. decided (output_of program sets)) sets given)
+      (goes_next known (fold_stages (with_set program) [] tables) (λ sets. decided (output_of program turns chosen sets)) sets given)
 
   -- there is no output
   pub output_fails : length tables ≡ length program.sets → (sets : List SetValue) → IfSome known (λ files. (fold_stages (with_set program) [] tables).answer files ≡ Ok sets)
-      → (failure : Failure) → Answers Memory (refused (output_of program sets)) (Err failure) → ShowsFailure known rose (tables_stage program tables) failure
+      → (failure : Failure) → Answers Memory (refused (output_of program turns chosen sets)) (Err failure) → ShowsFailure known rose (tables_stage program turns chosen tables) failure
   output_fails same sets given failure answers =
-      shows_whole {X = List ℕ} (λ text. text) known rose rose (tables_stage program tables) (decided (output_of program sets)) (Err failure) (λ r. r) (all_read same sets given)
-      (shows_decided known rose (output_of program sets) failure answers)
+      shows_whole {X = List ℕ} (λ text. text) known rose rose (tables_stage program turns chosen tables) (decided (output_of program turns chosen sets)) (Err failure) (λ r. r) (all_read same sets given)
+      (shows_decided known rose (output_of program turns chosen sets) failure answers)
 
   -- there is one
   pub output_given : length tables ≡ length program.sets → (sets : List SetValue) → IfSome known (λ files. (fold_stages (with_set program) [] tables).answer files ≡ Ok sets)
-      → (text : List ℕ) → refused (output_of program sets) ≡ Ok text → IfSome known (λ files. (tables_stage program tables).answer files ≡ Ok text)
+      → (text : List ℕ) → refused (output_of program turns chosen sets) ≡ Ok text → IfSome known (λ files. (tables_stage program turns chosen tables).answer files ≡ Ok text)
   output_given same sets given text is =
-      shows_whole {X = List ℕ} (λ text. text) known rose rose (tables_stage program tables) (decided (output_of program sets)) (Ok text) (λ r. r) (all_read same sets given)
-      (gives_decided known (output_of program sets) text is)
+      shows_whole {X = List ℕ} (λ text. text) known rose rose (tables_stage program turns chosen tables) (decided (output_of program turns chosen sets)) (Ok text) (λ r. r) (all_read same sets given)
+      (gives_decided known (output_of program turns chosen sets) text is)
 
--- ---- the whole command
+-- ---- the program on its tables, where the set is chosen by its name
 
-module _ (known : Option Files) (command : Command) where
-  pub command_fails_first : (before mid now : ℕ) (failure : Failure) → mid ≤ now → ShowsFailure known (Rose before mid) (program_stage command.program) failure → ShowsFailure known (Rose before now) (command_stage command) failure
-  unfolding command_stage
-  command_fails_first before mid now failure le shown =
-      fails_first known (Rose before mid) (Rose before now) (program_stage command.program) (λ program. tables_stage program command.tables) failure (λ r. omega arith) shown
+module _ (known : Option Files) (program : TypedProgram) (turns : ℕ) (only : Option (List ℕ)) (tables : List (List ℕ)) where
+  abbrev on_chosen : Option ℕ → Stage (List ℕ)
+  on_chosen chosen = tables_stage program turns chosen tables
 
-  pub command_shows : {X : Type 0} (view : X → List ℕ) (known' : Option Files) (before mid now : ℕ) (program : TypedProgram) (result : Result X Failure) → IfSome known (λ files. (program_stage command.program).answer files ≡ Ok program)
-      → known' ≡ known → before ≤ mid → Shows view known' (Rose mid now) (tables_stage program command.tables) result → Shows view known (Rose before now) (command_stage command) result
-  unfolding command_stage
-  command_shows view known' before mid now program result given same le shown =
-      shows_whole view known (Rose mid now) (Rose before now) (program_stage command.program >>= λ program. tables_stage program command.tables) (tables_stage program command.tables) result (λ r. omega arith)
-      (goes_next known (program_stage command.program) (λ program. tables_stage program command.tables) program given)
-      (subst (λ (f : Option Files). Shows view f (Rose mid now) (tables_stage program command.tables) result) same shown)
+  -- there is no such set
+  pub none_chosen : (rose : Type 0) (failure : Failure) → Err failure ≡ refused (chosen_in program only) → ShowsFailure known rose (typed_stage program turns only tables) failure
+  unfolding typed_stage
+  none_chosen rose failure is =
+      fails_first known rose rose (decided (chosen_in program only)) on_chosen failure (λ r. r) (shows_decided known rose (chosen_in program only) failure (inr (sym is)))
+
+  -- there is one, or all are put out
+  pub typed_shows : {X : Type 0} (view : X → List ℕ) (rose : Type 0) (chosen : Option ℕ) (result : Result X Failure) → Ok chosen ≡ refused (chosen_in program only)
+      → Shows view known rose (tables_stage program turns chosen tables) result → Shows view known rose (typed_stage program turns only tables) result
+  unfolding typed_stage
+  typed_shows view rose chosen result is shown =
+      shows_whole view known rose rose (decided (chosen_in program only) >>= on_chosen) (on_chosen chosen) result (λ r. r)
+      (goes_next known (decided (chosen_in program only)) on_chosen chosen (gives_decided known (chosen_in program only) chosen (sym is))) shown
+
+-- ---- the program of a file
+
+module _ (known : Option Files) (name : List ℕ) (turns : ℕ) (only : Option (List ℕ)) (tables : List (List ℕ)) where
+  abbrev on_program : TypedProgram → Stage (List ℕ)
+  on_program program = typed_stage program turns only tables
+
+  pub files_fail_first : (before mid now : ℕ) (failure : Failure) → mid ≤ now → ShowsFailure known (Rose before mid) (program_stage name) failure → ShowsFailure known (Rose before now) (files_stage name turns only tables) failure
+  unfolding files_stage
+  files_fail_first before mid now failure le shown =
+      fails_first known (Rose before mid) (Rose before now) (program_stage name) on_program failure (λ r. omega arith) shown
+
+  pub files_show : {X : Type 0} (view : X → List ℕ) (known' : Option Files) (before mid now : ℕ) (program : TypedProgram) (result : Result X Failure) → IfSome known (λ files. (program_stage name).answer files ≡ Ok program)
+      → known' ≡ known → before ≤ mid → Shows view known' (Rose mid now) (typed_stage program turns only tables) result → Shows view known (Rose before now) (files_stage name turns only tables) result
+  unfolding files_stage
+  files_show view known' before mid now program result given same le shown =
+      shows_whole view known (Rose mid now) (Rose before now) (program_stage name >>= on_program) (on_program program) result (λ r. omega arith)
+      (goes_next known (program_stage name) on_program program given)
+      (subst (λ (f : Option Files). Shows view f (Rose mid now) (typed_stage program turns only tables) result) same shown)

@@ -17,7 +17,8 @@ use Rattle.set_tables.specs.Schema.{IsSchema}
 use Rattle.set_tables.specs.declared.schema.Schema.{Schema}
 use Rattle.write_back.specs.Schemas.{schema_of}
 use Rattle.simit_run.specs.Output.{schemas_of}
-use Rattle.simit_run.specs.TableContracts.{AreRead, HaveTables, IsAsDeclared, IsRead, IsReadable, IsRunnable, SetsFit, schema_at}
+use Rattle.simit_run.specs.TableContracts.{AreRead, HaveTables, IsAsDeclared, IsRead, IsReadable, IsRunnable, SetsFit}
+use Rattle.simit_run.specs.Schemas.{schema_at}
 
 -- the sets before the last are as they were
 before_last : (sets : List SetValue) (set : SetValue) (number : ℕ) → number < length sets → set_at (sets ++ set ∷ []) number ≡ set_at sets number

@@ -5,7 +5,11 @@ use Rattle.hypergraph.specs.Sets.{set_at}
 use Rattle.set_tables.specs.Output.{table_text}
 use Rattle.set_tables.specs.declared.schema.Schema.{Schema}
 use Rattle.simit_run.specs.Output.{texts_of}
-use Rattle.simit_run.specs.TableContracts.{schema_at}
+use Rattle.simit_run.specs.Schemas.{schema_at}
+
+-- the schema where there is none
+abbrev pub no_schema : Schema
+no_schema = record { name = []; arity = 0; columns = [] }
 
 -- one table more
 up_to : (schemas : List Schema) (sets : List SetValue) (k : ℕ) → k < length schemas → k < length sets

@@ -1,6 +1,5 @@
 -- What the program answers to its command words and to the files that they name.
-use Rattle.std.specs.Prelude.{ℕ, ◌==◌, List, [], ◌∷◌, ◌++◌, length, Result, Ok, Err, if◌then◌else◌}
-use Rattle.std.specs.Option.{ok_or}
+use Rattle.std.specs.Prelude.{ℕ, ◌==◌, List, [], ◌∷◌, ◌++◌, length, Option, Result, Ok, Err, if◌then◌else◌}
 use Rattle.std.specs.Result.{result_map_both}
 use Rattle.hypergraph.specs.SetValue.{SetValue}
 use Rattle.hypergraph.specs.Sets.{count_over}
@@ -9,14 +8,18 @@ use Rattle.block_types.specs.Readings.{over}
 use Rattle.set_tables.specs.Table.{table_set}
 use Rattle.set_tables.specs.declared.faults.TableFault.{TableFault}
 use Rattle.write_back.specs.Schemas.{schema_of}
-use Rattle.run_notes.specs.Command.{Command}
-use Rattle.simit_run.specs.Command.{command_of}
-use Rattle.simit_run.specs.Output.{output_of}
+use Rattle.command_words.specs.Commands.{words_of}
+use Rattle.command_words.specs.declared.command.Words.{Words}
+use Rattle.command_words.specs.declared.command.Words.TheVariants.{Run, Plan, Plain, Make}
+use Rattle.command_words.specs.declared.command.WordsFault.{WordsFault}
+use Rattle.simit_run.specs.MadeJob.{made_line}
+use Rattle.simit_run.specs.Output.{chosen_in, output_of}
 use Rattle.simit_run.specs.ProgramText.{typed_of}
 use Rattle.simit_run.specs.Stage.{Stage, decided, file, fold_stages, ◌>>=◌}
 use Rattle.run_notes.specs.declared.role.FileRole.TheVariants as role
 use Rattle.run_notes.specs.declared.failure.Refusal.{Refusal}
-use Rattle.run_notes.specs.declared.failure.Refusal.TheVariants.{Words, FileCount, Table}
+use Rattle.run_notes.specs.declared.failure.Refusal.TheVariants as refusal
+use Rattle.run_notes.specs.declared.failure.Refusal.TheVariants.{NotYet, FileCount, Table}
 
 -- the typed program that the file of a name states
 unfoldable pub program_stage : List ℕ → Stage TypedProgram
@@ -49,17 +52,32 @@ set_stage program sets name = file (role.Table (length sets)) name >>= λ bytes.
 abbrev pub with_set : TypedProgram → List SetValue → List ℕ → Stage (List SetValue)
 with_set program sets name = set_stage program sets name >>= λ set. decided (Ok (sets ++ set ∷ []))
 
--- the output of a program, from the files of its tables
-unfoldable pub tables_stage : TypedProgram → List (List ℕ) → Stage (List ℕ)
-tables_stage program tables = do
+-- the output of a program with so many turns, of all sets or of the chosen one, from the files of its tables
+unfoldable pub tables_stage : TypedProgram → ℕ → Option ℕ → List (List ℕ) → Stage (List ℕ)
+tables_stage program turns chosen tables = do
   names ← decided (names_for program tables)
   sets ← fold_stages (with_set program) [] names
-  decided (output_of program sets)
+  decided (output_of program turns chosen sets)
 
--- the output of a command
-unfoldable pub command_stage : Command → Stage (List ℕ)
-command_stage command = program_stage command.program >>= λ program. tables_stage program command.tables
+-- the same, where the set is chosen by its name
+unfoldable pub typed_stage : TypedProgram → ℕ → Option (List ℕ) → List (List ℕ) → Stage (List ℕ)
+typed_stage program turns only tables = decided (chosen_in program only) >>= λ chosen. tables_stage program turns chosen tables
+
+-- the same of the program that a file states
+unfoldable pub files_stage : List ℕ → ℕ → Option (List ℕ) → List (List ℕ) → Stage (List ℕ)
+files_stage name turns only tables = program_stage name >>= λ program. typed_stage program turns only tables
+
+-- the output of a command; by how many workers it runs, how many words they may hold, and whether it runs plainly makes no difference to it
+unfoldable pub command_stage : Words → Stage (List ℕ)
+command_stage (Run program tables workers turns held only) = files_stage program turns only tables
+command_stage (Plan program tables held) = decided (Err NotYet)
+command_stage (Plain program tables turns only) = files_stage program turns only tables
+command_stage (Make seed points workers) = decided (made_line seed points)
+
+-- the command that the words state; no definition runs out of memory
+abbrev pub stated : Result Words WordsFault → Result Words Refusal
+stated result = result_map_both (λ x. x) (λ fault. refusal.Words) result
 
 -- the program's answer to its words: its output, or why there is none
 unfoldable pub answer_of : List (List ℕ) → Stage (List ℕ)
-answer_of words = decided (ok_or (command_of words) Words) >>= command_stage
+answer_of words = decided (stated (words_of words)) >>= command_stage

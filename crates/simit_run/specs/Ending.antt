@@ -5,7 +5,11 @@ use Rattle.simit_io.specs.Inputs.{Files}
 use Rattle.simit_io.specs.Sink.{Puts, IsPrefixOf}
 use Rattle.algebra_meaning.specs.declared.stopped.Stop.{Stop}
 use Rattle.algebra_meaning.specs.declared.stopped.Stop.TheVariants as stop
-use Rattle.run_notes.specs.Command.{Command, file_name}
+use Rattle.command_words.specs.Commands.{words_of}
+use Rattle.command_words.specs.declared.command.Words.{Words}
+use Rattle.command_words.specs.declared.command.Words.TheVariants.{Run, Plain}
+use Rattle.command_words.specs.declared.command.WordsFault.{WordsFault}
+use Rattle.run_notes.specs.Named.{Named, named_by, nothing_named}
 use Rattle.run_notes.specs.Notes.{PutsNote, note_of, write_fault_note}
 use Rattle.run_notes.specs.declared.role.FileRole.{FileRole}
 use Rattle.run_notes.specs.declared.failure.Refusal.{Refusal}
@@ -13,7 +17,6 @@ use Rattle.run_notes.specs.declared.failure.Refusal.TheVariants as refusal
 use Rattle.run_notes.specs.declared.failure.Failure.{Failure}
 use Rattle.run_notes.specs.declared.failure.Failure.TheVariants.{Memory, ReadFault, Refused}
 use Rattle.simit_run.specs.Answer.{answer_of}
-use Rattle.simit_run.specs.Command.{command_of}
 use Rattle.simit_run.specs.declared.status.Status.{Status}
 use Rattle.simit_run.specs.declared.status.Status.TheVariants as status
 
@@ -22,10 +25,16 @@ pub record Ending : Type 0 where
   pub out : List ℕ
   pub note : List ℕ
 
--- the names of the files by their roles; words that are no command name none
-abbrev pub names_of : Option Command → FileRole → List ℕ
-names_of None role = []
-names_of (Some command) role = file_name command role
+-- what the words name; words that are no command name nothing
+abbrev pub names_of : Result Words WordsFault → Named
+names_of (Ok words) = named_by words
+names_of (Err fault) = nothing_named
+
+-- the program's file of a command that reads one, the first that it reads
+abbrev pub first_file : Result Words WordsFault → Option (List ℕ)
+first_file (Ok (Run program tables workers turns held only)) = Some program
+first_file (Ok (Plain program tables turns only)) = Some program
+first_file other = None
 
 -- ---- statuses
 
@@ -35,11 +44,13 @@ stop_status stop.Spent = status.Spent
 
 abbrev pub refusal_status : Refusal → Status
 refusal_status refusal.Words = status.Refused
+refusal_status refusal.NotYet = status.Refused
 refusal_status (refusal.FileLimit role) = status.Limit
 refusal_status (refusal.Lexical line fault) = status.Refused
 refusal_status (refusal.Syntax line token) = status.Refused
 refusal_status (refusal.NotAChain line) = status.Refused
 refusal_status (refusal.IllTyped line kind) = status.Refused
+refusal_status refusal.NoSuchSet = status.Refused
 refusal_status (refusal.FileCount files sets) = status.Refused
 refusal_status (refusal.Table number fault) = status.Refused
 refusal_status refusal.DenseWords = status.Limit
@@ -55,7 +66,7 @@ status_of (Refused refusal) = refusal_status refusal
 -- the ending of an answer: an output is put whole and without a note; without one nothing is put out
 abbrev pub ending_of : List (List ℕ) → Result (List ℕ) Failure → Ending
 ending_of words (Ok text) = record { status = status.Done; out = text; note = [] }
-ending_of words (Err failure) = record { status = status_of failure; out = []; note = note_of (names_of (command_of words)) failure }
+ending_of words (Err failure) = record { status = status_of failure; out = []; note = note_of (names_of (words_of words)) failure }
 
 -- the ending of an output of which only a prefix could be put
 abbrev pub cut_off : List ℕ → Ending

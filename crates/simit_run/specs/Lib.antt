@@ -1,9 +1,12 @@
 pub mod Status
-pub mod Command
 pub mod Stage
 pub mod ProgramText
+pub mod Schemas
+pub mod Running
 pub mod Output
+pub mod MadeJob
 pub mod Answer
 pub mod Ending
 pub mod Shown
 pub mod TableContracts
+pub mod CommandContracts

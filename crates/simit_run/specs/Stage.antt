@@ -2,7 +2,7 @@
 use Rattle.std.specs.Prelude.{ℕ, nat_lt, List, [], ◌∷◌, ◌++◌, length, Option, Some, None, Result, Ok, Err, if◌then◌else◌}
 use Rattle.vocabulary.specs.Answers as answers
 use Rattle.simit_io.specs.Inputs.{Files}
-use Rattle.run_notes.specs.Command.{limit_of}
+use Rattle.run_notes.specs.Limits.{limit_of}
 use Rattle.run_notes.specs.declared.role.FileRole.{FileRole}
 use Rattle.run_notes.specs.declared.failure.Failure.{Failure}
 use Rattle.run_notes.specs.declared.failure.Failure.TheVariants.{ReadFault, Refused}

@@ -1,5 +1,5 @@
 -- What the calls inside this crate know of a program's sets and their tables.
-use Rattle.std.specs.Prelude.{◌≡◌, ◌<◌, ◌≤◌, ◌+◌, ℕ, List, [], All, length, slice_index_or}
+use Rattle.std.specs.Prelude.{◌≡◌, ◌<◌, ◌≤◌, ◌+◌, ℕ, List, [], All, Option, IfSome, length}
 use Rattle.vocabulary.specs.declared.limits.TheConstants.{MOST_COLUMNS}
 use Rattle.hypergraph.specs.SetValue.{SetValue, EndpointsBelow}
 use Rattle.hypergraph.specs.Sets.{endpoint_bound, set_at}
@@ -11,6 +11,7 @@ use Rattle.set_tables.specs.Output.{table_text}
 use Rattle.set_tables.specs.Schema.{Fits, IsSchema}
 use Rattle.set_tables.specs.declared.schema.Schema.{Schema}
 use Rattle.write_back.specs.Schemas.{schema_of}
+use Rattle.simit_run.specs.Schemas.{schema_at}
 
 -- a declared set whose table can be read
 pub record IsReadable (program : TypedProgram) (number : ℕ) : Type 0 where
@@ -44,10 +45,6 @@ pub record SetsFit (program : TypedProgram) (sets : List SetValue) : Type 0 wher
   pub as_many : length sets ≡ length program.sets
   pub each : (number : ℕ) → number < length sets → IsAsDeclared program number (set_at sets number)
 
--- the schema of a number; one without columns where there is none
-abbrev pub schema_at : List Schema → ℕ → Schema
-schema_at schemas number = slice_index_or schemas number (record { name = []; arity = 0; columns = [] })
-
 -- sets have tables of these schemas
 pub record HaveTables (schemas : List Schema) (sets : List SetValue) : Type 0 where
   pub as_many : length schemas ≡ length sets
@@ -59,7 +56,8 @@ abbrev pub IsLongest : List Schema → List SetValue → ℕ → Type 0
 IsLongest schemas sets capacity =
     (number : ℕ) → number < length sets → length (table_text (schema_at schemas number) (set_at sets number)) ≤ capacity
 
--- what an output keeps: it can be put as it stands, within that capacity
-pub record IsWritable (schemas : List Schema) (sets : List SetValue) (capacity : ℕ) : Type 0 where
+-- what an output keeps: it can be put as it stands, within that capacity, and a chosen set is one of its own
+pub record IsWritable (chosen : Option ℕ) (schemas : List Schema) (sets : List SetValue) (capacity : ℕ) : Type 0 where
   pub tables : HaveTables schemas sets
   pub longest : IsLongest schemas sets capacity
+  pub within : IfSome chosen (λ number. number < length sets)

@@ -1,34 +1,34 @@
 //! From the command to the output: the program's file and the tables' files are read and judged in turn, the program
 //! runs, and all the memory for its output is taken before any of it is put.
 
-ghost use Rattle.std.specs.Prelude.{◌≡◌, ◌<◌, ◌≤◌, IfOk, map, string_bytes, length, ℕ};
+ghost use Rattle.std.specs.Prelude.{◌≡◌, ◌<◌, ◌≤◌, IfSome, Some, Ok, length, ℕ, List};
 ghost use Rattle.vocabulary.specs.Answers.{Answers};
 ghost use Rattle.simit_io.specs.Inputs.{IsMissing, Rose};
 ghost use Rattle.hypergraph.specs.SetValue.{EndpointsBelow};
 ghost use Rattle.hypergraph.specs.Sets.{AllLieOverEarlier, endpoint_bound, set_at};
-ghost use Rattle.run_laws.specs.Shapes.{DifferInWords};
 ghost use Rattle.simit_run.specs.Answer as spec;
-ghost use Rattle.simit_run.specs.Output.{few_dense_words, output_of, schemas_of, sets_after};
-ghost use Rattle.run_notes.specs.Command.{shown};
+ghost use Rattle.simit_run.specs.Ending.{first_file};
+ghost use Rattle.simit_run.specs.Output as out;
+ghost use Rattle.command_words.specs.Job.{HasPoints};
+ghost use Rattle.simit_run.specs.CommandContracts.{text_of};
 ghost use Rattle.simit_run.specs.Shown.{Shows};
 ghost use Rattle.simit_run.specs.Stage.{refused};
 ghost use Rattle.simit_run.specs.TableContracts.{AreRead, IsRunnable};
 
+use crate::choosing::chosen_in;
 use crate::front::read_program;
-use crate::output::Output;
+use crate::made_job::made_line;
+use crate::output::{Output, Tables};
+use crate::running::{Engine, Manner, sets_after};
 use crate::tables::{read_sets, schemas_of};
-use algebra_meaning::Stop;
 use block_types::Typed;
-use dense_sizes::{MOST_DENSE_WORDS, dense_words};
-use global_algebra::Ending;
+use command_words::Words;
 use hypergraph::{SetData, Sets};
-use proc_engine::execute;
-use run_laws::shape_law;
-use run_notes::{Command, Failure, FileRole, Refusal, USUAL_TURNS};
+use run_notes::{Failure, FileRole, Refusal};
 use set_tables::Schema;
 use simit_io::Inputs;
 use std::alloc::Global;
-use vocabulary::NoMemory;
+use vocabulary::Text;
 use vocabulary::limits::MOST_SETS;
 
 /// The sets of a list in which each endpoint is an element.
@@ -44,75 +44,40 @@ fn sets_of(list: Vec<SetData>) -> Sets
     }
 }
 
-/// The sets, where the dense matrices of the run over them are within their limit.
-#[tactic(auto, unfolding(crate::specs::Output::few_dense_words))]
-fn few_dense_words(typed: &Typed, sets: Sets) -> Result<Sets, Failure>
-    ensures value { result ≡ refused (few_dense_words typed.now sets) }
-    ensures same { IfOk result (λ few. few ≡ sets) }
-{
-    if dense_words(typed.typed_program(), &sets) > u128::from(MOST_DENSE_WORDS) {
-        return Err(Failure::Refused(Refusal::DenseWords));
-    }
-    Ok(sets)
-}
-
-/// The sets after the program, or why its run stops.
-#[tactic(auto, using(crate::proofs::Outcomes::after_done, crate::proofs::Outcomes::after_trap, crate::proofs::Outcomes::after_spent, crate::proofs::Outcomes::run_done))]
-fn sets_after(alloc: Global, typed: &Typed, sets: Sets) -> Result<Sets, Failure>
-    ensures value { Answers Failure.Memory (refused (sets_after typed.now sets)) result }
-    ensures words { IfOk result (λ after. DifferInWords sets after) }
-{
-    shape_law();
-    match execute(alloc, typed, sets, USUAL_TURNS) {
-        Ok(Ending::Done(after)) => Ok(after),
-        Ok(
-            Ending::Trap {
-                line,
-                element,
-                kind,
-            },
-        ) => {
-            let stop = Stop::Trap {
-                line,
-                element,
-                kind,
-            };
-            Err(Failure::Refused(Refusal::Stopped(stop)))
-        }
-        Ok(Ending::Spent) => Err(Failure::Refused(Refusal::Stopped(Stop::Spent))),
-        Err(NoMemory) => Err(Failure::Memory),
-    }
-}
-
 /// What is put out of the sets that were read, once the program has run on them.
 #[tactic(auto, unfolding(crate::specs::Output::output_of))]
 fn output_of(
     alloc: Global,
     typed: &Typed,
+    manner: Manner,
+    chosen: Option<u32>,
     schemas: Vec<Schema>,
     list: Vec<SetData>,
-) -> Result<Output, Failure>
+) -> Result<Tables, Failure>
     requires runnable { IsRunnable typed.now }
-    requires schemas { schemas.items ≡ schemas_of typed.now }
+    requires chosen { IfSome chosen (λ number. number < length typed.now.sets) }
+    requires schemas { schemas.items ≡ out.schemas_of typed.now }
     requires read { AreRead typed.now list.items }
     requires all { length list.items ≡ length typed.now.sets }
-    ensures { Answers Failure.Memory (refused (output_of typed.now list.items)) result }
+    ensures { Answers Failure.Memory (refused (out.output_of typed.now manner.turns chosen list.items)) result }
 {
-    let sets = few_dense_words(typed, sets_of(list))?;
-    let after = sets_after(alloc, typed, sets)?;
-    let output = Output::of(alloc, schemas, after).map_err(|_| Failure::Memory)?;
+    let after = sets_after(alloc, typed, manner, sets_of(list))?;
+    let output = Tables::of(alloc, chosen, schemas, after).map_err(|_| Failure::Memory)?;
     Ok(output)
 }
 
-/// The output of a program, from the files of its tables.
+/// The output of a program, of all sets or of the chosen one, from the files of its tables.
 fn run_on_tables<I: Inputs>(
     alloc: Global,
     inputs: &mut I,
     typed: &Typed,
-    names: &[String],
-) -> Result<Output, Failure>
+    manner: Manner,
+    chosen: Option<u32>,
+    names: &[Text],
+) -> Result<Tables, Failure>
+    requires { IfSome chosen (λ number. number < length typed.now.sets) }
     ensures shows { Shows (λ output. output) (I.holds inputs.old) (Rose (I.faults inputs.old) (I.faults inputs.new))
-        (spec.tables_stage typed.now (map string_bytes names.now)) result }
+        (spec.tables_stage typed.now manner.turns chosen names.now) result }
     ensures same_files { I.holds inputs.new ≡ I.holds inputs.old }
     ensures counted { I.faults inputs.old ≤ I.faults inputs.new }
 {
@@ -125,23 +90,96 @@ fn run_on_tables<I: Inputs>(
     }
     let schemas = schemas_of(alloc, typed).map_err(|_| Failure::Memory)?;
     let read = read_sets(alloc, inputs, typed, &schemas, names)?;
-    let output = output_of(alloc, typed, schemas, read)?;
+    let output = output_of(alloc, typed, manner, chosen, schemas, read)?;
+    Ok(output)
+}
+
+/// The output of a program, of all sets or of the one of a name, from the files of its tables.
+fn run_typed<I: Inputs>(
+    alloc: Global,
+    inputs: &mut I,
+    typed: &Typed,
+    manner: Manner,
+    only: &Option<Text>,
+    names: &[Text],
+) -> Result<Tables, Failure>
+    ensures shows { Shows (λ output. output) (I.holds inputs.old) (Rose (I.faults inputs.old) (I.faults inputs.new))
+        (spec.typed_stage typed.now manner.turns only.now names.now) result }
+    ensures same_files { I.holds inputs.new ≡ I.holds inputs.old }
+    ensures counted { I.faults inputs.old ≤ I.faults inputs.new }
+{
+    let chosen = chosen_in(typed, only)?;
+    let output = run_on_tables(alloc, inputs, typed, manner, chosen, names)?;
+    Ok(output)
+}
+
+/// The output of the program that a file states, from the files of its tables.
+fn run_files<I: Inputs>(
+    alloc: Global,
+    inputs: &mut I,
+    program: &Text,
+    manner: Manner,
+    only: &Option<Text>,
+    tables: &[Text],
+) -> Result<Tables, Failure>
+    ensures shows { Shows (λ output. output) (I.holds inputs.old) (Rose (I.faults inputs.old) (I.faults inputs.new))
+        (spec.files_stage program.now manner.turns only.now tables.now) result }
+    ensures missing { IsMissing (I.holds inputs.old) program.now → result ≡ Err (Failure.ReadFault FileRole.Program) }
+    ensures same_files { I.holds inputs.new ≡ I.holds inputs.old }
+    ensures counted { I.faults inputs.old ≤ I.faults inputs.new }
+{
+    let typed = read_program(alloc, inputs, program.as_str())?;
+    let output = run_typed(alloc, inputs, &typed, manner, only, tables)?;
     Ok(output)
 }
 
 /// The output of a command, or why there is none.
-pub fn answer<I: Inputs>(
-    alloc: Global,
-    inputs: &mut I,
-    command: Command<'_>,
-) -> Result<Output, Failure>
-    ensures shows { Shows (λ output. output) (I.holds inputs.old) (Rose (I.faults inputs.old) (I.faults inputs.new))
-        (spec.command_stage (shown command.entry)) result }
-    ensures missing { IsMissing (I.holds inputs.old) (shown command.entry).program → result ≡ Err (Failure.ReadFault FileRole.Program) }
+#[tactic(auto, unfolding(crate::specs::Answer::command_stage))]
+pub fn answer<I: Inputs>(alloc: Global, inputs: &mut I, words: &Words) -> Result<Output, Failure>
+    requires { HasPoints words.now }
+    ensures shows { Shows text_of (I.holds inputs.old) (Rose (I.faults inputs.old) (I.faults inputs.new))
+        (spec.command_stage words.now) result }
+    ensures missing { (name : List ℕ) → first_file (Ok words.now) ≡ Some name → IsMissing (I.holds inputs.old) name
+        → result ≡ Err (Failure.ReadFault FileRole.Program) }
     ensures same_files { I.holds inputs.new ≡ I.holds inputs.old }
     ensures counted { I.faults inputs.old ≤ I.faults inputs.new }
 {
-    let program = read_program(alloc, inputs, command.program)?;
-    let output = run_on_tables(alloc, inputs, &program, command.tables)?;
-    Ok(output)
+    match words {
+        Words::Run {
+            program,
+            sets,
+            turns,
+            only,
+            ..
+        } => {
+            let manner = Manner {
+                engine: Engine::Words,
+                turns: *turns,
+            };
+            match run_files(alloc, inputs, program, manner, only, sets.items()) {
+                Ok(tables) => Ok(Output::Tables(tables)),
+                Err(failure) => Err(failure),
+            }
+        }
+        Words::Plan { .. } => Err(Failure::Refused(Refusal::NotYet)),
+        Words::Plain {
+            program,
+            sets,
+            turns,
+            only,
+        } => {
+            let manner = Manner {
+                engine: Engine::Plain,
+                turns: *turns,
+            };
+            match run_files(alloc, inputs, program, manner, only, sets.items()) {
+                Ok(tables) => Ok(Output::Tables(tables)),
+                Err(failure) => Err(failure),
+            }
+        }
+        Words::Make { seed, n, .. } => match made_line(alloc, *seed, *n) {
+            Ok(line) => Ok(Output::Line(line)),
+            Err(failure) => Err(failure),
+        },
+    }
 }

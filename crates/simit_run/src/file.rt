@@ -2,7 +2,7 @@
 
 ghost use Rattle.std.specs.Prelude.{◌≡◌, ◌≤◌, IfOk, length};
 ghost use Rattle.simit_io.specs.Inputs.{IsMissing, Rose};
-ghost use Rattle.run_notes.specs.Command.{limit_of};
+ghost use Rattle.run_notes.specs.Limits.{limit_of};
 ghost use Rattle.simit_run.specs.Stage as spec;
 ghost use Rattle.simit_run.specs.Shown.{Shows};
 

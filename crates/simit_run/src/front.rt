@@ -111,7 +111,7 @@ fn tree_in(alloc: Global, source: &[u8]) -> Result<sim_syntax::Program, Failure>
 
 /// The typed program of a text.
 #[tactic(auto, unfolding(crate::specs::ProgramText::typed_of))]
-fn typed_in(alloc: Global, source: &[u8]) -> Result<Typed, Failure>
+pub fn typed_in(alloc: Global, source: &[u8]) -> Result<Typed, Failure>
     requires { length source.now ≤ MOST_PROGRAM_BYTES }
     ensures { Answers Failure.Memory (refused (text.typed_of source.now)) result }
 {

@@ -1,11 +1,14 @@
-//! The runner: reads a program and the tables of its sets, runs the program and puts the tables out.
+//! The runner: does what the command words ask for. It reads a program and the tables of its sets, runs the program and puts the
+//! tables out.
 #![tactic(auto)]
 
 mod answering;
-mod command;
+mod choosing;
 mod file;
 mod front;
+mod made_job;
 mod output;
+mod running;
 mod status;
 mod tables;
 mod top_call;

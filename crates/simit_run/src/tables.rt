@@ -1,6 +1,6 @@
 //! Reads the tables of a program's sets, one after another, each over those that were read before it.
 
-ghost use Rattle.std.specs.Prelude.{◌≡◌, ◌<◌, ◌≤◌, [], IfOk, IfSome, ℕ, map, string_bytes, length};
+ghost use Rattle.std.specs.Prelude.{◌≡◌, ◌<◌, ◌≤◌, [], IfOk, IfSome, ℕ, length};
 ghost use Rattle.vocabulary.specs.Answers.{Answers};
 ghost use Rattle.simit_io.specs.Inputs.{Rose};
 ghost use Rattle.hypergraph.specs.SetValue.{EndpointsBelow};
@@ -22,7 +22,7 @@ use set_tables::{Schema, TableFault, read_table};
 use simit_io::Inputs;
 use std::alloc::Global;
 use vocabulary::limits::{MOST_SETS, MOST_TABLE_BYTES};
-use vocabulary::{L, NoMemory};
+use vocabulary::{L, NoMemory, Text};
 
 /// The schemas of a program's sets.
 pub fn schemas_of(alloc: Global, typed: &Typed) -> Result<Vec<Schema>, NoMemory>
@@ -108,13 +108,13 @@ pub fn read_sets<I: Inputs>(
     inputs: &mut I,
     typed: &Typed,
     schemas: &[Schema],
-    names: &[String],
+    names: &[Text],
 ) -> Result<Vec<SetData>, Failure>
     requires runnable { IsRunnable typed.now }
     requires schemas { schemas.now ≡ schemas_of typed.now }
     requires names { length names.now ≡ length typed.now.sets }
     ensures shows { Shows (λ sets. sets.items) (I.holds inputs.old) (Rose (I.faults inputs.old) (I.faults inputs.new))
-        (fold_stages (spec.with_set typed.now) [] (map string_bytes names.now)) result }
+        (fold_stages (spec.with_set typed.now) [] names.now) result }
     ensures read { IfOk result (λ sets. AreRead typed.now sets.items) }
     ensures all { IfOk result (λ sets. length sets.items ≡ length typed.now.sets) }
     ensures same_files { I.holds inputs.new ≡ I.holds inputs.old }

@@ -1,9 +1,12 @@
 //! Puts the tables of sets, one after another, each made whole before it is put.
 
-ghost use Rattle.std.specs.Prelude.{◌≤◌, OnOk, OnErr, vec_capacity};
+ghost use Rattle.std.specs.Prelude.{◌≡◌, ◌<◌, ◌≤◌, OnOk, OnErr, length, vec_capacity};
 ghost use Rattle.simit_io.specs.Inputs.{Rose};
 ghost use Rattle.simit_io.specs.Sink.{Puts, PutsPrefix};
+ghost use Rattle.hypergraph.specs.Sets.{set_at};
+ghost use Rattle.set_tables.specs.Output.{table_text};
 ghost use Rattle.simit_run.specs.Output.{texts_of};
+ghost use Rattle.simit_run.specs.Schemas.{schema_at};
 ghost use Rattle.simit_run.specs.TableContracts.{HaveTables, IsLongest};
 
 use hypergraph::Sets;
@@ -22,6 +25,28 @@ pub fn longest(schemas: &[Schema], sets: &Sets) -> usize
     longest
 }
 
+/// Puts the table of a set, as far as the sink takes it. The buffer has the capacity for the longest.
+pub fn put_table<O: Sink>(
+    out: &mut O,
+    schemas: &[Schema],
+    sets: &Sets,
+    number: u32,
+    buffer: &mut Vec<u8>,
+) -> Result<(), Failed>
+    requires tables { HaveTables schemas.now sets.now }
+    requires set { number < length sets.now }
+    requires capacity { IsLongest schemas.now sets.now (vec_capacity buffer.old) }
+    ensures whole { OnOk result (Puts (O.written out.old) (O.written out.new) (table_text (schema_at schemas.now number) (set_at sets.now number))) }
+    ensures prefix { OnErr result (PutsPrefix (O.written out.old) (O.written out.new) (table_text (schema_at schemas.now number) (set_at sets.now number))) }
+    ensures failed { OnErr result (Rose (O.faults out.old) (O.faults out.new)) }
+    ensures counted { O.faults out.old ≤ O.faults out.new }
+    ensures capacity { vec_capacity buffer.new ≡ vec_capacity buffer.old }
+{
+    buffer.clear();
+    write_table(&schemas[number as usize], sets, number, buffer);
+    put_all(out, buffer)
+}
+
 /// Puts the tables up to the first that the sink doesn't take whole. The buffer has the capacity for the longest.
 pub fn put_tables<O: Sink>(
     out: &mut O,
@@ -38,9 +63,7 @@ pub fn put_tables<O: Sink>(
 {
     putting_law();
     for number in 0..sets.len() {
-        buffer.clear();
-        write_table(&schemas[number as usize], sets, number, buffer);
-        put_all(out, buffer)?;
+        put_table(out, schemas, sets, number, buffer)?;
     }
     Ok(())
 }

@@ -133,7 +133,7 @@ fn nothing_is_read_after_a_refusal_and_each_put_of_its_note_fails(
 ) -> Result<(), Fail> {
     let program = pulling(rt.alloc())?;
     let (program, points) = (program.as_bytes(), POINTS.as_bytes());
-    let no_words = refused("usage: simit run PROGRAM SETS..\n");
+    let no_words = refused("usage: simit run|plan|plain PROGRAM SETS.. or simit make SEED N\n");
     let no_file = ended(Status::ReadFault, "read fault: none\n");
     let no_program = refused("refused: line 1: unknown name\n");
     let no_tree = refused("refused: line 5, token 25: syntax\n");

@@ -23,33 +23,28 @@ static FILES: [(&str, &[u8]); 11] = [
     ("\u{0}", POINTS),
 ];
 
-const USAGE: &str = "usage: simit run PROGRAM SETS..\n";
+const USAGE: &str = "usage: simit run|plan|plain PROGRAM SETS.. or simit make SEED N\n";
 
 /// Words, the status of the call, and its note line.
-static WORDS: [(&[&str], Status, &str); 28] = [
+static WORDS: [(&[&str], Status, &str); 29] = [
     (&[], Status::Refused, USAGE),
     (&[""], Status::Refused, USAGE),
     (&["run"], Status::Refused, USAGE),
-    (&["plan", "a.sim", "points.csv"], Status::Refused, USAGE),
     (&["Run", "a.sim", "points.csv"], Status::Refused, USAGE),
     (&["run ", "a.sim", "points.csv"], Status::Refused, USAGE),
     (&["", "a.sim", "points.csv"], Status::Refused, USAGE),
     (&["a.sim", "run", "points.csv"], Status::Refused, USAGE),
     (&["run", "", "points.csv"], Status::Refused, USAGE),
-    (&["run", "-", "points.csv"], Status::Refused, USAGE),
     (&["run", "-a.sim", "points.csv"], Status::Refused, USAGE),
     (&["run", "a.sim", ""], Status::Refused, USAGE),
-    (&["run", "a.sim", "-"], Status::Refused, USAGE),
     (&["run", "a.sim", "-points.csv"], Status::Refused, USAGE),
     (&["run", "a.sim", "points.csv", ""], Status::Refused, USAGE),
-    (
-        &["run", "a.sim", "points.csv", "-", "b"],
-        Status::Refused,
-        USAGE,
-    ),
     // any other words name files
     (&["run", "a.sim", "points.csv"], Status::Done, ""),
     (&["run", "run", "a--b"], Status::Done, ""),
+    (&["run", "-", "points.csv"], Status::Done, ""),
+    (&["run", "--", "-a.sim", "points.csv"], Status::Done, ""),
+    (&["run", "a.sim", "--", "points.csv"], Status::Done, ""),
     (&["run", " -a", "caf\u{e9}\n"], Status::Done, ""),
     (&["run", "dir/a b.sim", "\u{0}"], Status::Done, ""),
     (
@@ -80,6 +75,16 @@ static WORDS: [(&[&str], Status, &str); 28] = [
         ],
         Status::Refused,
         "refused: 10 files for 1 sets\n",
+    ),
+    (
+        &["run", "a.sim", "points.csv", "-", "b"],
+        Status::Refused,
+        "refused: 3 files for 1 sets\n",
+    ),
+    (
+        &["run", "a.sim", "-"],
+        Status::Refused,
+        "refused: - row 0, column 0: header\n",
     ),
     // one file as the program and as the table
     (

@@ -1,4 +1,4 @@
-use Rattle.std.proofs.Common.{◌≡◌, ◌≤◌, [], length, drop, map, string_bytes}
+use Rattle.std.proofs.Common.{◌≡◌, ◌≤◌, [], length, drop}
 use Rattle.simit_run.specs.Answer.{with_set}
 use Rattle.simit_run.specs.Shown.{GoesOn}
 use Rattle.simit_run.specs.Stage.{fold_stages}
@@ -8,7 +8,7 @@ use Rattle.simit_run.proofs.tables.read_sets.Given as goal
 -- the sets so far are read, and the whole goes on with the tables that are left
 abbrev pub invariant-loop-number : goal.invariant-loop-number
 invariant-loop-number g l =
-    let texts = map string_bytes l.names in
+    let texts = l.names in
     record {
       many : length l.sets.items ≡ l.number;
       read : AreRead l.typed l.sets.items;

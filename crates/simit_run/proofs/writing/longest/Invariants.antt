@@ -1,7 +1,7 @@
 use Rattle.std.proofs.Common.{ℕ, ◌<◌, ◌≤◌, length}
 use Rattle.hypergraph.specs.Sets.{set_at}
 use Rattle.set_tables.specs.Output.{table_text}
-use Rattle.simit_run.specs.TableContracts.{schema_at}
+use Rattle.simit_run.specs.Schemas.{schema_at}
 use Rattle.simit_run.proofs.writing.longest.Given as goal
 
 -- none of the texts so far is longer
