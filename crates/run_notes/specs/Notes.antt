@@ -18,7 +18,6 @@ use Rattle.type_rules.specs.declared.types.TypeKind.TheVariants as kind
 use Rattle.dense_sizes.specs.declared.limit.TheConstants.{MOST_DENSE_WORDS}
 use Rattle.run_notes.specs.Limits.{limit_of}
 use Rattle.run_notes.specs.Named.{Named}
-use Rattle.run_notes.specs.declared.role.FileRole.{FileRole}
 use Rattle.run_notes.specs.declared.role.FileRole.TheVariants as role
 use Rattle.run_notes.specs.declared.failure.Refusal.{Refusal}
 use Rattle.run_notes.specs.declared.failure.Refusal.TheVariants as refusal

@@ -1,5 +1,5 @@
 -- What the ending of a run says of it.
-use Rattle.std.proofs.Common.{◌≡◌, ℕ, true, false, List, Result, Ok, Err, refl, sym, ap, ◌∙◌}
+use Rattle.std.proofs.Common.{◌≡◌, ℕ, true, false, List, Result, Ok, Err, sym, ap, ◌∙◌}
 use Rattle.std.specs.Prelude.{Bool, nat_lt, if◌then◌else◌}
 use Rattle.hypergraph.specs.SetValue.{SetValue}
 use Rattle.typed_tree.specs.declared.program.TypedProgram.{TypedProgram}
@@ -10,10 +10,8 @@ use Rattle.dense_sizes.specs.DenseWords.{dense_words}
 use Rattle.dense_sizes.specs.declared.limit.TheConstants.{MOST_DENSE_WORDS}
 use Rattle.global_algebra.specs.Ending.{ending_of}
 use Rattle.global_algebra.specs.declared.ending.Ending.{Ending}
-use Rattle.global_algebra.specs.declared.ending.Ending.TheVariants.{Done, Trap, Spent}
 use Rattle.simit_run.specs.Running.{ending_within, sets_left}
 use Rattle.simit_run.specs.Stage.{refused}
-use Rattle.run_notes.specs.declared.failure.Failure.TheVariants.{Refused}
 use Rattle.run_notes.specs.declared.failure.Refusal.TheVariants.{DenseWords}
 
 -- a run whose ending leaves sets has these sets

@@ -1,5 +1,5 @@
 -- Which typed program a text states.
-use Rattle.std.specs.Prelude.{ℕ, List, drop, Result, Ok, Err, if◌then◌else◌}
+use Rattle.std.specs.Prelude.{ℕ, List, drop, Result}
 use Rattle.std.specs.Result.{result_map_both}
 use Rattle.vocabulary.specs.Answers.{◌>>=◌}
 use Rattle.sim_lexer.specs.Tokens.{line_at, tokens}

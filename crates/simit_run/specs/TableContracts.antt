@@ -1,5 +1,5 @@
 -- What the calls inside this crate know of a program's sets and their tables.
-use Rattle.std.specs.Prelude.{◌≡◌, ◌<◌, ◌≤◌, ◌+◌, ℕ, List, [], All, Option, IfSome, length}
+use Rattle.std.specs.Prelude.{◌≡◌, ◌<◌, ◌≤◌, ◌+◌, ℕ, List, All, Option, IfSome, length}
 use Rattle.vocabulary.specs.declared.limits.TheConstants.{MOST_COLUMNS}
 use Rattle.hypergraph.specs.SetValue.{SetValue, EndpointsBelow}
 use Rattle.hypergraph.specs.Sets.{endpoint_bound, set_at}

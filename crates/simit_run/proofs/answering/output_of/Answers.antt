@@ -1,4 +1,4 @@
-use Rattle.std.proofs.Common.{◌≡◌, ◌∙◌, List, subst}
+use Rattle.std.proofs.Common.{◌∙◌, List, subst}
 use Rattle.hypergraph.specs.SetValue.{SetValue}
 use Rattle.run_laws.specs.Shapes.{DifferInWords}
 use Rattle.simit_run.proofs.SetsRead.{have-tables, over-earlier, sets-fit}

@@ -1,4 +1,3 @@
-use Rattle.std.proofs.Common.{◌≡◌}
 use Rattle.simit_run.proofs.Outcomes.{ran}
 use Rattle.simit_run.proofs.running.sets_after.Goals as goal
 

@@ -1,4 +1,4 @@
-use Rattle.std.proofs.Common.{◌≡◌, Ok, Err, map, string_bytes, refl}
+use Rattle.std.proofs.Common.{map, string_bytes, refl}
 use Rattle.simit_io.specs.Inputs.{Rose}
 use Rattle.command_words.specs.Commands.{words_of}
 use Rattle.simit_run.proofs.Endings.{ends_without_command, ends_without_memory, refused_words}
