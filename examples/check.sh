@@ -39,16 +39,46 @@ for words in "$here"/*/words; do
     : >"$work/note"
     compare "what is expected of $(basename "$model")" 0 0 expected "$work/nothing"
     [ ! -f truth.py ] || python3 truth.py
-    # The words of a command hold no blanks.
+    # The words of a command hold no blanks, and begin with `run`.
     # shellcheck disable=SC2046
     call $(cat words)
     compare "the model $(basename "$model")" "$status" 0 expected "$work/nothing"
+    # shellcheck disable=SC2046
+    call plain $(cut -d ' ' -f 2- words)
+    compare "the plain run of $(basename "$model")" "$status" 0 expected "$work/nothing"
 done
 
 cd "$here/pull"
-echo 'usage: simit run PROGRAM SETS..' >"$work/wanted"
-call run
-compare 'a command without a program' "$status" 2 "$work/nothing" "$work/wanted"
+# printed TEXT WORDS..: the program prints this line for these words
+printed() {
+    echo "$1" >"$work/wanted"
+    shift
+    call "$@"
+    compare "$*" "$status" 0 "$work/wanted" "$work/nothing"
+}
+
+# noted STATUS NOTE WORDS..: it ends with this status and note line, and puts nothing out
+noted() {
+    wanted_status=$1
+    echo "$2" >"$work/wanted"
+    shift 2
+    call "$@"
+    compare "$*" "$status" "$wanted_status" "$work/nothing" "$work/wanted"
+}
+
+usage='usage: simit run|plan|plain PROGRAM SETS.. or simit make SEED N'
+noted 2 "$usage" run
+noted 2 "$usage" run pull.sim points.csv springs.csv --turns 5 --turns 5
+noted 2 "$usage" plain pull.sim points.csv springs.csv --workers 2
+noted 2 'refused: not yet' plan pull.sim points.csv springs.csv
+noted 2 'refused: no set nodes' run pull.sim points.csv springs.csv --only nodes
+noted 2 'refused: 1 files for 2 sets' run pull.sim points.csv
+printed 'points 3 springs 6 weighted -98' make 7 3
+printed 'points 1 springs 2 weighted 0' make 0 1 --workers=16
+noted 7 'limit: dense words over 4194304' make 7 2049
+sed -n '/^set springs/,$p' expected >"$work/springs"
+call run --only=springs pull.sim points.csv -- springs.csv
+compare 'one set of the output alone' "$status" 0 "$work/springs" "$work/nothing"
 
 echo 'read fault: nosuch.csv' >"$work/wanted"
 call run pull.sim points.csv nosuch.csv
