@@ -80,6 +80,21 @@ sed -n '/^set springs/,$p' expected >"$work/springs"
 call run --only=springs pull.sim points.csv -- springs.csv
 compare 'one set of the output alone' "$status" 0 "$work/springs" "$work/nothing"
 
+# A term of 9,000 matrices, each of which adds the second number of a pair to the first.
+{
+    sed '/^func/,$d' pull.sim
+    echo 'func shear(s : Spring, p : (Point*2)) -> (K : matrix[points,points](int(0)))'
+    echo '  K(p(0),p(0)) = s.k;  K(p(0),p(1)) = s.k;  K(p(1),p(1)) = s.k;'
+    printf 'end\nproc main\n  var K = map shear to springs reduce +;\n  points.f = ix (i0) '
+    awk 'BEGIN { for (j = 0; j < 9000; j++) printf "K(i%d,i%d)*", j, j + 1; print "points.x(i9000);" }'
+    echo end
+} >"$work/deep.sim"
+printf 'x,f\n1,0\n1,0\n' >"$work/points.csv"
+printf 'p0,p1,k\n0,1,1\n' >"$work/springs.csv"
+printf 'set points\nx,f\n1,9001\n1,1\n' >"$work/wanted"
+call run --only points "$work/deep.sim" "$work/points.csv" "$work/springs.csv"
+compare 'a term of 9000 matrices' "$status" 0 "$work/wanted" "$work/nothing"
+
 echo 'read fault: nosuch.csv' >"$work/wanted"
 call run pull.sim points.csv nosuch.csv
 compare 'a table that is missing' "$status" 3 "$work/nothing" "$work/wanted"

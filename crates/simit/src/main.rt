@@ -7,6 +7,11 @@ use std::alloc::AllocError;
 use std::env;
 use std::env::Env;
 use std::process::ExitCode;
+use std::thread::Builder;
+
+/// The bytes of the stack on which a call runs. A product of matrices over indices is taken factor by factor, one call
+/// inside the other, and a text has room for some 9,300 factors. They were seen to need 32 MiB.
+const STACK_BYTES: usize = 128 << 20;
 
 /// The words after the program's own name. Where one of them is no text there are none, which is no command.
 fn words_of(rt: &(impl Env + AllocGlobal)) -> Result<Vec<String>, AllocError> {
@@ -18,13 +23,22 @@ fn words_of(rt: &(impl Env + AllocGlobal)) -> Result<Vec<String>, AllocError> {
 }
 
 fn main(rt: HostRuntime) -> ExitCode {
-    let mut inputs = Files::new(&rt);
-    let mut out = Stream::output(rt.stdout());
-    let mut notes = Stream::error(rt.stderr());
-    let status = match words_of(&rt) {
-        Ok(words) => run(rt.alloc(), &words, &mut inputs, &mut out, &mut notes),
-        Err(AllocError) => {
-            let _ = put_all(&mut notes, b"no memory\n");
+    let call = move || -> Status {
+        let mut inputs = Files::new(&rt);
+        let mut out = Stream::output(rt.stdout());
+        let mut notes = Stream::error(rt.stderr());
+        match words_of(&rt) {
+            Ok(words) => run(rt.alloc(), &words, &mut inputs, &mut out, &mut notes),
+            Err(AllocError) => {
+                let _ = put_all(&mut notes, b"no memory\n");
+                Status::Memory
+            }
+        }
+    };
+    let status = match Builder::new().stack_size(STACK_BYTES).spawn(&rt, call) {
+        Ok(thread) => thread.join(&rt),
+        Err(_) => {
+            let _ = put_all(&mut Stream::error(rt.stderr()), b"no memory\n");
             Status::Memory
         }
     };
