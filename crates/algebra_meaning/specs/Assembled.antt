@@ -11,8 +11,8 @@ use Rattle.type_rules.specs.declared.types.BlockShape.TheVariants.{Number, Vecto
 use Rattle.typed_tree.specs.declared.function.ResultSide.{ResultSide}
 use Rattle.typed_tree.specs.declared.function.TypedFunction.{TypedFunction}
 use Rattle.typed_tree.specs.declared.function.TypedResult.{TypedResult}
-use Rattle.typed_tree.specs.declared.program.TypedProgram.{TypedProgram}
 use Rattle.value_algebra.specs.declared.value.Value.{Value}
+use Rattle.algebra_meaning.specs.Linked.{LinkedProgram}
 use Rattle.algebra_meaning.specs.declared.context.ElementContext.{ElementContext}
 use Rattle.value_algebra.specs.Value.{row_by_row, word_at}
 use Rattle.algebra_meaning.specs.declared.contribution.Contribution.{Contribution}
@@ -79,21 +79,21 @@ of_element element (Err trap) = Err (record { element = element; kind = trap })
 abbrev pub place_of : TypedFunction → ℕ → ℕ → ElementContext
 place_of function set element = record { own = function.element; ends = function.endpoints; mapped = set; element = element }
 
-abbrev pub contributions_at : TypedProgram → List SetValue → ℕ → TypedFunction → List Value → ℕ → Result (List Contribution) TrapKind
+abbrev pub contributions_at : LinkedProgram → List SetValue → ℕ → TypedFunction → List Value → ℕ → Result (List Contribution) TrapKind
 contributions_at program sets set function args element =
     contributions (record { program = program; sets = sets; place = place_of function set element }) function args
 
 -- contributions so far, and those of a next element
-abbrev pub with_element : TypedProgram → List SetValue → ℕ → TypedFunction → List Value → List Contribution → ℕ → Result (List Contribution) Trapped
+abbrev pub with_element : LinkedProgram → List SetValue → ℕ → TypedFunction → List Value → List Contribution → ℕ → Result (List Contribution) Trapped
 with_element program sets set function args so_far element =
     of_element element (contributions_at program sets set function args element) >>= λ contributed. Ok (so_far ++ contributed)
 
 -- what all elements of a set contribute, in their order, or the trap of the least element that traps
-unfoldable pub all_contributions : TypedProgram → List SetValue → ℕ → TypedFunction → List Value → Result (List Contribution) Trapped
+unfoldable pub all_contributions : LinkedProgram → List SetValue → ℕ → TypedFunction → List Value → Result (List Contribution) Trapped
 all_contributions program sets set function args =
     fold_result (with_element program sets set function args) [] (range_with_len 0 (set_at sets set).count)
 
 -- the results of a function that is mapped to a set
-unfoldable pub mapped : TypedProgram → List SetValue → ℕ → TypedFunction → List Value → Result (List Value) Trapped
+unfoldable pub mapped : LinkedProgram → List SetValue → ℕ → TypedFunction → List Value → Result (List Value) Trapped
 mapped program sets set function args =
     all_contributions program sets set function args >>= λ contributed. Ok (all_assembled sets contributed 0 function.results)

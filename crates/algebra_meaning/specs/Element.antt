@@ -21,6 +21,7 @@ use Rattle.algebra_meaning.specs.declared.context.ElementContext.{ElementContext
 use Rattle.algebra_meaning.specs.declared.contribution.Contribution.{Contribution}
 use Rattle.algebra_meaning.specs.declared.contribution.Point.{Point}
 use Rattle.value_algebra.specs.Value.{number, word_of}
+use Rattle.algebra_meaning.specs.Linked.{Answer, LinkedProgram, linked}
 use Rattle.algebra_meaning.specs.Expression.{Scope, meaning, holds, value_at, end_of}
 
 abbrev pub Steps : Type 0
@@ -28,9 +29,18 @@ Steps = Point → Result Point TrapKind
 
 -- what stays the same while a function runs at an element
 pub record Call : Type 0 where
+  pub program : LinkedProgram
+  pub sets : List SetValue
+  pub place : ElementContext
+
+-- where a function of a typed program runs, with what host functions answer
+pub record Site : Type 0 where
   pub program : TypedProgram
   pub sets : List SetValue
   pub place : ElementContext
+
+abbrev pub call_in : Answer → Site → Call
+call_in answer site = record { program = linked answer site.program; sets = site.sets; place = site.place }
 
 -- what the names of an expression stand for, by the locals
 abbrev pub scope_of : Call → List Value → Scope

@@ -29,18 +29,36 @@ use Rattle.typed_tree.specs.declared.condition.TypedConjunction.{TypedConjunctio
 use Rattle.typed_tree.specs.declared.condition.TypedCmp.{TypedCmp}
 use Rattle.value_algebra.specs.declared.value.Value.{Value}
 use Rattle.algebra_meaning.specs.declared.context.ElementContext.{ElementContext}
+use Rattle.algebra_meaning.specs.Linked.{Answer, LinkedProgram, linked}
 use Rattle.value_algebra.specs.Scales as scales
 use Rattle.value_algebra.specs.Fields.{element_in, field_at, field_over, fields_of}
 use Rattle.value_algebra.specs.Value.{word_at, word_of, number, block_value, each, both, times, transposed, dot}
 
--- what the names of an expression stand for: fields of sets, the variables of the main procedure, locals, and in a function the
--- element and its endpoints
+-- what the names of an expression stand for: fields of sets, the variables of the main procedure, locals, host functions, and in a
+-- function the element and its endpoints
 pub record Scope : Type 0 where
+  pub program : LinkedProgram
+  pub sets : List SetValue
+  pub variables : List Value
+  pub locals : List Value
+  pub place : Option ElementContext
+
+-- the same but for what host functions answer
+pub record Visible : Type 0 where
   pub program : TypedProgram
   pub sets : List SetValue
   pub variables : List Value
   pub locals : List Value
   pub place : Option ElementContext
+
+abbrev pub hosted : Answer → Visible → Scope
+hosted answer visible = record {
+  program = linked answer visible.program;
+  sets = visible.sets;
+  variables = visible.variables;
+  locals = visible.locals;
+  place = visible.place;
+}
 
 abbrev pub no_value : Value
 no_value = record { rows = 0; columns = 0; words = [] }
@@ -64,10 +82,15 @@ part value [] = value
 part value (i ∷ []) = number (word_at value (word_of i) 0)
 part value (i ∷ j ∷ indices) = number (word_at value (word_of i) (word_of j))
 
--- the index of an endpoint
+-- the index of an endpoint, and the first argument of a call
 abbrev pub first_word : List Value → ℕ
 first_word [] = 0
 first_word (value ∷ values) = word_of value
+
+-- the second argument of a call; 0 where there is none
+abbrev pub second_word : List Value → ℕ
+second_word [] = 0
+second_word (value ∷ values) = first_word values
 
 -- the fields of the elements of a set
 abbrev pub set_fields : TypedProgram → ℕ → List TypedField
@@ -75,7 +98,7 @@ set_fields program set = fields_of program.elements (element_in program.sets set
 
 -- a field of a set, as a system vector
 abbrev pub set_field : Scope → ℕ → ℕ → Value
-set_field scope set field = field_over (set_fields scope.program set) (set_at scope.sets set) field
+set_field scope set field = field_over (set_fields scope.program.typed set) (set_at scope.sets set) field
 
 -- the endpoint of the element at a position; 0 where it has none there
 abbrev pub end_in : SetValue → ℕ → ℕ → ℕ
@@ -87,12 +110,12 @@ end_of sets place position = end_in (set_at sets place.mapped) place.element pos
 -- a field of the element
 abbrev pub own_field : Scope → Option ElementContext → ℕ → Value
 own_field scope None field = no_value
-own_field scope (Some place) field = field_at (fields_of scope.program.elements place.own) (set_at scope.sets place.mapped) field place.element
+own_field scope (Some place) field = field_at (fields_of scope.program.typed.elements place.own) (set_at scope.sets place.mapped) field place.element
 
 -- a field of an element of a set in which endpoints lie
 abbrev pub field_in : Scope → ℕ → Option ℕ → ℕ → ℕ → Value
 field_in scope type None element field = no_value
-field_in scope type (Some over) element field = field_at (fields_of scope.program.elements type) (set_at scope.sets over) field element
+field_in scope type (Some over) element field = field_at (fields_of scope.program.typed.elements type) (set_at scope.sets over) field element
 
 -- a field of the endpoint at a position
 abbrev pub end_field_of : Scope → ElementContext → Option Endpoints → ℕ → ℕ → Value
@@ -111,6 +134,7 @@ referred scope (referent.Turn local range) args indices = value_at scope.locals 
 referred scope (referent.Field set field) args indices = set_field scope set field
 referred scope (referent.Own field) args indices = part (own_field scope scope.place field) indices
 referred scope (referent.End field) args indices = part (end_field scope scope.place (first_word args) field) indices
+referred scope (referent.Host host) args indices = number (scope.program.answer host (first_word args) (second_word args))
 
 -- a part with its type
 pub record Part : Type 0 where

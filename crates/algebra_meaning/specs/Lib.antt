@@ -1,3 +1,4 @@
+pub mod Linked
 pub mod Expression
 pub mod Means
 pub mod Element

@@ -17,8 +17,8 @@ use Rattle.typed_tree.specs.declared.main_procedure.TypedRight.{TypedRight}
 use Rattle.typed_tree.specs.declared.main_procedure.TypedRight.TheVariants as right
 use Rattle.typed_tree.specs.declared.main_procedure.TypedTarget.{TypedTarget}
 use Rattle.typed_tree.specs.declared.main_procedure.TypedTarget.TheVariants as target
-use Rattle.typed_tree.specs.declared.program.TypedProgram.{TypedProgram}
 use Rattle.value_algebra.specs.declared.value.Value.{Value}
+use Rattle.algebra_meaning.specs.Linked.{LinkedProgram}
 use Rattle.value_algebra.specs.Value.{number, word_of}
 use Rattle.value_algebra.specs.Fields.{with_field}
 use Rattle.algebra_meaning.specs.Expression.{Scope, meaning, meanings, holds, no_value, set_fields}
@@ -33,7 +33,7 @@ abbrev pub Runs : Type 0
 Runs = State → Result State Stop
 
 -- what the names of an expression of the main procedure stand for
-abbrev pub scope_in : TypedProgram → State → Scope
+abbrev pub scope_in : LinkedProgram → State → Scope
 scope_in program state = record { program = program; sets = state.sets; variables = state.variables; locals = state.locals; place = None }
 
 -- ---- traps
@@ -50,21 +50,21 @@ at_element line (Err trapped) = Err (Trap line (Some trapped.element) trapped.ki
 -- ---- right sides
 
 -- the value of an expression, and those of a map's arguments
-abbrev pub value_in : TypedProgram → State → ℕ → TypedExpr → Result Value Stop
+abbrev pub value_in : LinkedProgram → State → ℕ → TypedExpr → Result Value Stop
 value_in program state line e = at line (meaning (scope_in program state) e)
 
-abbrev pub arguments : TypedProgram → State → ℕ → List TypedExpr → Result (List Value) Stop
+abbrev pub arguments : LinkedProgram → State → ℕ → List TypedExpr → Result (List Value) Stop
 arguments program state line args = at line (meanings (scope_in program state) args)
 
-abbrev pub map_values : TypedProgram → State → ℕ → Option TypedFunction → ℕ → List Value → Result (List Value) Stop
+abbrev pub map_values : LinkedProgram → State → ℕ → Option TypedFunction → ℕ → List Value → Result (List Value) Stop
 map_values program state line None set args = Ok []
 map_values program state line (Some function) set args = at_element line (mapped program state.sets set function args)
 
 -- the values of a right side: the results of a map, whose arguments are evaluated once, or one
-unfoldable pub right_values : TypedProgram → State → ℕ → TypedRight → Result (List Value) Stop
+unfoldable pub right_values : LinkedProgram → State → ℕ → TypedRight → Result (List Value) Stop
 right_values program state line (right.Value e) = value_in program state line e >>= λ value. Ok (value ∷ [])
 right_values program state line (right.Map function set args) =
-    arguments program state line args >>= λ values. map_values program state line (slice_get program.functions function) set values
+    arguments program state line args >>= λ values. map_values program state line (slice_get program.typed.functions function) set values
 
 -- ---- what is assigned
 
@@ -85,17 +85,17 @@ with_set state set changed = record {
 }
 
 -- a whole target gets a value
-unfoldable pub assigned : TypedProgram → State → TypedTarget × Value → State
+unfoldable pub assigned : LinkedProgram → State → TypedTarget × Value → State
 assigned program state (target.Variable variable, value) = with_variable state variable value
 assigned program state (target.Field set field, value) =
-    with_set state set (with_field (set_fields program set) (set_at state.sets set) field value.words)
+    with_set state set (with_field (set_fields program.typed set) (set_at state.sets set) field value.words)
 
 -- targets get values, from left to right
-abbrev pub all_assigned : TypedProgram → State → List (TypedTarget × Value) → State
+abbrev pub all_assigned : LinkedProgram → State → List (TypedTarget × Value) → State
 all_assigned program state [] = state
 all_assigned program state (one ∷ others) = all_assigned program (assigned program state one) others
 
-unfoldable pub assignment : TypedProgram → ℕ → List TypedTarget → TypedRight → Runs
+unfoldable pub assignment : LinkedProgram → ℕ → List TypedTarget → TypedRight → Runs
 assignment program line targets e state =
     right_values program state line e >>= λ values. Ok (all_assigned program state (zip targets values))
 
@@ -119,7 +119,7 @@ turn body state = spend state.turns
     spend zero = Err Spent
     spend (suc left) = in_order body (with_turns state left)
 
-abbrev pub test : TypedProgram → ℕ → TypedCond → State → Result Bool Stop
+abbrev pub test : LinkedProgram → ℕ → TypedCond → State → Result Bool Stop
 test program line cond state = at line (holds (scope_in program state) cond)
 
 -- turns as long as a condition holds. A turn that begins spends one, so that one more than the turns that are left bounds them.
@@ -128,7 +128,7 @@ while_up_to zero condition body state = Err Spent
 while_up_to (suc bound) condition body state =
     condition state >>= λ held. if held then turn body state >>= while_up_to bound condition body else Ok state
 
-unfoldable pub while_held : TypedProgram → ℕ → TypedCond → List Runs → Runs
+unfoldable pub while_held : LinkedProgram → ℕ → TypedCond → List Runs → Runs
 while_held program line cond body state = while_up_to (suc state.turns) (test program line cond) body state
 
 -- turns with the values from one up to below another, by their signed readings
@@ -140,7 +140,7 @@ count_up_to (suc bound) local from to body state =
     else Ok state
 
 -- the bounds are evaluated once
-unfoldable pub counted : TypedProgram → ℕ → ℕ → TypedExpr → TypedExpr → List Runs → Runs
+unfoldable pub counted : LinkedProgram → ℕ → ℕ → TypedExpr → TypedExpr → List Runs → Runs
 counted program line local from to body state = do
   a ← value_in program state line from
   b ← value_in program state line to
@@ -148,15 +148,15 @@ counted program line local from to body state = do
 
 -- ---- choices and assertions
 
-unfoldable pub chosen : TypedProgram → ℕ → TypedCond → List Runs → List Runs → Runs
+unfoldable pub chosen : LinkedProgram → ℕ → TypedCond → List Runs → List Runs → Runs
 chosen program line cond body otherwise state = test program line cond state >>= λ held. in_order (if held then body else otherwise) state
 
-unfoldable pub asserted : TypedProgram → ℕ → TypedCond → Runs
+unfoldable pub asserted : LinkedProgram → ℕ → TypedCond → Runs
 asserted program line cond state = test program line cond state >>= λ held. if held then Ok state else at line (Err Assertion)
 
 -- ---- all statements
 
-unfoldable pub statement_runs : TypedProgram → MainStmt-F Runs → Runs
+unfoldable pub statement_runs : LinkedProgram → MainStmt-F Runs → Runs
 statement_runs program (MainStmt-F.Var line variables e) = assignment program line (map target.Variable variables) e
 statement_runs program (MainStmt-F.Assign line targets e) = assignment program line targets e
 statement_runs program (MainStmt-F.While line cond body) = while_held program line cond body
@@ -164,13 +164,13 @@ statement_runs program (MainStmt-F.For line local from to body) = counted progra
 statement_runs program (MainStmt-F.If line cond body otherwise) = chosen program line cond body otherwise
 statement_runs program (MainStmt-F.Assert line cond) = asserted program line cond
 
-abbrev pub runs_of : TypedProgram → MainStmt → Runs
+abbrev pub runs_of : LinkedProgram → MainStmt → Runs
 runs_of program = fold-MainStmt Runs (statement_runs program)
 
 -- before the first statement
-abbrev pub beginning : TypedProgram → List SetValue → ℕ → State
-beginning program sets turns = record { sets = sets; variables = replicate (length program.variables) no_value; locals = []; turns = turns }
+abbrev pub beginning : LinkedProgram → List SetValue → ℕ → State
+beginning program sets turns = record { sets = sets; variables = replicate (length program.typed.variables) no_value; locals = []; turns = turns }
 
 -- the sets after a program, or why it stops before its end
-unfoldable pub run : TypedProgram → List SetValue → ℕ → Result (List SetValue) Stop
-run program sets turns = in_order (map (runs_of program) program.body) (beginning program sets turns) >>= λ state. Ok state.sets
+unfoldable pub run : LinkedProgram → List SetValue → ℕ → Result (List SetValue) Stop
+run program sets turns = in_order (map (runs_of program) program.typed.body) (beginning program sets turns) >>= λ state. Ok state.sets

@@ -9,6 +9,7 @@ use crate::expression::meaning;
 use crate::laws::condition_laws;
 use crate::scope::Scope;
 use crate::stopped::Stopped;
+use host_table::HostMeaning;
 use ring_words::{TrapKind, less};
 use sim_syntax::CmpOp;
 use std::alloc::Global;
@@ -41,8 +42,12 @@ pub fn held(negated: bool, op: CmpOp, a: u64, b: u64) -> bool
 
 /// Whether a comparison holds, or the first trap.
 #[tactic(auto, unfolding(crate::specs::Expression::comparison))]
-fn comparison(alloc: Global, cmp: &TypedCmp, scope: &Scope<'_>) -> Result<bool, Stopped<TrapKind>>
-    ensures { Means (spec.comparison scope.now cmp.now) result }
+fn comparison<H: HostMeaning>(
+    alloc: Global,
+    cmp: &TypedCmp,
+    scope: &Scope<'_, H>,
+) -> Result<bool, Stopped<TrapKind>>
+    ensures { Means (spec.comparison (spec.hosted H.answer scope.now) cmp.now) result }
 {
     let left = meaning(alloc, &cmp.left, scope)?;
     let right = meaning(alloc, &cmp.right, scope)?;
@@ -51,12 +56,12 @@ fn comparison(alloc: Global, cmp: &TypedCmp, scope: &Scope<'_>) -> Result<bool, 
 
 /// Whether comparisons hold together, or the first trap.
 #[tactic(auto, unfolding(crate::specs::Expression::conjunction))]
-fn conjunction(
+fn conjunction<H: HostMeaning>(
     alloc: Global,
     conjunction: &TypedConjunction,
-    scope: &Scope<'_>,
+    scope: &Scope<'_, H>,
 ) -> Result<bool, Stopped<TrapKind>>
-    ensures { Means (spec.conjunction scope.now conjunction.now) result }
+    ensures { Means (spec.conjunction (spec.hosted H.answer scope.now) conjunction.now) result }
 {
     condition_laws::<TypedCmp>();
     let mut all = true;
@@ -69,8 +74,12 @@ fn conjunction(
 
 /// Whether a condition holds, or the first trap.
 #[tactic(auto, unfolding(crate::specs::Expression::holds))]
-pub fn holds(alloc: Global, cond: &TypedCond, scope: &Scope<'_>) -> Result<bool, Stopped<TrapKind>>
-    ensures { Means (spec.holds scope.now cond.now) result }
+pub fn holds<H: HostMeaning>(
+    alloc: Global,
+    cond: &TypedCond,
+    scope: &Scope<'_, H>,
+) -> Result<bool, Stopped<TrapKind>>
+    ensures { Means (spec.holds (spec.hosted H.answer scope.now) cond.now) result }
 {
     condition_laws::<TypedConjunction>();
     let mut any = false;

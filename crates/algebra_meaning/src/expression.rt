@@ -10,6 +10,7 @@ use crate::parts::{added, block_in, found, last_value, multiplied, or_trap, push
 use crate::references::referred;
 use crate::scope::Scope;
 use crate::stopped::Stopped;
+use host_table::HostMeaning;
 use ring_words::TrapKind;
 use std::alloc::Global;
 use type_rules::{NodeType, scale_of};
@@ -19,8 +20,12 @@ use vocabulary::L;
 
 /// What an expression means, by what its names stand for: its value, or the first trap.
 #[cycle(expression)]
-pub fn meaning(alloc: Global, e: &TypedExpr, scope: &Scope<'_>) -> Result<Value, Stopped<TrapKind>>
-    ensures { Means (spec.meaning scope.now e.now) result }
+pub fn meaning<H: HostMeaning>(
+    alloc: Global,
+    e: &TypedExpr,
+    scope: &Scope<'_, H>,
+) -> Result<Value, Stopped<TrapKind>>
+    ensures { Means (spec.meaning (spec.hosted H.answer scope.now) e.now) result }
 {
     let value = form_meaning(alloc, &e.form, e.node.value_type, scope)?;
     Ok(value)
@@ -29,13 +34,13 @@ pub fn meaning(alloc: Global, e: &TypedExpr, scope: &Scope<'_>) -> Result<Value,
 /// What a form of a type means.
 #[cycle(expression)]
 #[tactic(auto, unfolding(crate::specs::Expression::form_meaning, crate::specs::Expression::reference, crate::specs::Expression::quotient, crate::specs::Expression::scalar_product))]
-fn form_meaning(
+fn form_meaning<H: HostMeaning>(
     alloc: Global,
     form: &TypedForm,
     value_type: NodeType,
-    scope: &Scope<'_>,
+    scope: &Scope<'_, H>,
 ) -> Result<Value, Stopped<TrapKind>>
-    ensures { Means (spec.form_of scope.now form.now value_type) result }
+    ensures { Means (spec.form_of (spec.hosted H.answer scope.now) form.now value_type) result }
 {
     match form {
         TypedForm::Number { word } => {
@@ -76,12 +81,12 @@ fn form_meaning(
 
 /// The values of expressions, one after the other, or the first trap.
 #[cycle(expression)]
-pub fn meanings(
+pub fn meanings<H: HostMeaning>(
     alloc: Global,
     expressions: &[TypedExpr],
-    scope: &Scope<'_>,
+    scope: &Scope<'_, H>,
 ) -> Result<L<Value>, Stopped<TrapKind>>
-    ensures { Means (spec.meanings scope.now expressions.now) result }
+    ensures { Means (spec.meanings (spec.hosted H.answer scope.now) expressions.now) result }
 {
     expression_laws();
     let mut values = L::empty(alloc);
@@ -94,8 +99,12 @@ pub fn meanings(
 
 /// The entries of rows of a block, one row after the other.
 #[cycle(expression)]
-fn entries(alloc: Global, rows: &[TypedRow], scope: &Scope<'_>) -> Result<L<u64>, Stopped<TrapKind>>
-    ensures { Means (spec.entries (map (spec.row_of scope.now) rows.now)) result }
+fn entries<H: HostMeaning>(
+    alloc: Global,
+    rows: &[TypedRow],
+    scope: &Scope<'_, H>,
+) -> Result<L<u64>, Stopped<TrapKind>>
+    ensures { Means (spec.entries (map (spec.row_of (spec.hosted H.answer scope.now)) rows.now)) result }
 {
     expression_laws();
     let mut words = L::empty(alloc);
@@ -109,13 +118,13 @@ fn entries(alloc: Global, rows: &[TypedRow], scope: &Scope<'_>) -> Result<L<u64>
 /// What a block of rows means.
 #[cycle(expression)]
 #[tactic(auto, unfolding(crate::specs::Expression::written))]
-fn written(
+fn written<H: HostMeaning>(
     alloc: Global,
     rows: &[TypedRow],
     value_type: NodeType,
-    scope: &Scope<'_>,
+    scope: &Scope<'_, H>,
 ) -> Result<Value, Stopped<TrapKind>>
-    ensures { Means (spec.written value_type (map (spec.row_of scope.now) rows.now)) result }
+    ensures { Means (spec.written value_type (map (spec.row_of (spec.hosted H.answer scope.now)) rows.now)) result }
 {
     let words = entries(alloc, rows, scope)?;
     Ok(Value::of_block(block_in(value_type), words))
@@ -123,12 +132,12 @@ fn written(
 
 /// The total of terms; none where there are none.
 #[cycle(expression)]
-fn total(
+fn total<H: HostMeaning>(
     alloc: Global,
     terms: &[TypedTerm],
-    scope: &Scope<'_>,
+    scope: &Scope<'_, H>,
 ) -> Result<Option<Value>, Stopped<TrapKind>>
-    ensures { Means (spec.total (map (spec.term_of scope.now) terms.now)) result }
+    ensures { Means (spec.total (map (spec.term_of (spec.hosted H.answer scope.now)) terms.now)) result }
 {
     expression_laws();
     let mut total = None;
@@ -142,8 +151,12 @@ fn total(
 /// What a sum means.
 #[cycle(expression)]
 #[tactic(auto, unfolding(crate::specs::Expression::sum))]
-fn sum(alloc: Global, terms: &[TypedTerm], scope: &Scope<'_>) -> Result<Value, Stopped<TrapKind>>
-    ensures { Means (spec.sum (map (spec.term_of scope.now) terms.now)) result }
+fn sum<H: HostMeaning>(
+    alloc: Global,
+    terms: &[TypedTerm],
+    scope: &Scope<'_, H>,
+) -> Result<Value, Stopped<TrapKind>>
+    ensures { Means (spec.sum (map (spec.term_of (spec.hosted H.answer scope.now)) terms.now)) result }
 {
     let total = total(alloc, terms, scope)?;
     Ok(found(alloc, total))
@@ -151,12 +164,12 @@ fn sum(alloc: Global, terms: &[TypedTerm], scope: &Scope<'_>) -> Result<Value, S
 
 /// The product of factors with its type; none where there are none.
 #[cycle(expression)]
-fn chain(
+fn chain<H: HostMeaning>(
     alloc: Global,
     factors: &[TypedFactor],
-    scope: &Scope<'_>,
+    scope: &Scope<'_, H>,
 ) -> Result<Option<(NodeType, Value)>, Stopped<TrapKind>>
-    ensures { Means (spec.chain (map (spec.factor_of scope.now) factors.now)) result }
+    ensures { Means (spec.chain (map (spec.factor_of (spec.hosted H.answer scope.now)) factors.now)) result }
 {
     expression_laws();
     let mut so_far = None;
@@ -172,12 +185,12 @@ fn chain(
 /// What a product means.
 #[cycle(expression)]
 #[tactic(auto, unfolding(crate::specs::Expression::product))]
-fn product(
+fn product<H: HostMeaning>(
     alloc: Global,
     factors: &[TypedFactor],
-    scope: &Scope<'_>,
+    scope: &Scope<'_, H>,
 ) -> Result<Value, Stopped<TrapKind>>
-    ensures { Means (spec.product (map (spec.factor_of scope.now) factors.now)) result }
+    ensures { Means (spec.product (map (spec.factor_of (spec.hosted H.answer scope.now)) factors.now)) result }
 {
     let product = chain(alloc, factors, scope)?;
     Ok(last_value(alloc, product))
@@ -186,12 +199,12 @@ fn product(
 /// A transposed value.
 #[cycle(expression)]
 #[tactic(auto, unfolding(crate::specs::Expression::transposed_part))]
-fn transposed_value(
+fn transposed_value<H: HostMeaning>(
     alloc: Global,
     value: &TypedExpr,
-    scope: &Scope<'_>,
+    scope: &Scope<'_, H>,
 ) -> Result<Value, Stopped<TrapKind>>
-    ensures { Means (spec.transposed_part (spec.part_of scope.now value.now)) result }
+    ensures { Means (spec.transposed_part (spec.part_of (spec.hosted H.answer scope.now) value.now)) result }
 {
     let value = meaning(alloc, value, scope)?;
     let transposed = transposed(alloc, &value)?;
@@ -201,13 +214,13 @@ fn transposed_value(
 /// A value at another scale.
 #[cycle(expression)]
 #[tactic(auto, unfolding(crate::specs::Expression::rescaled_part))]
-fn rescaled_value(
+fn rescaled_value<H: HostMeaning>(
     alloc: Global,
     value: &TypedExpr,
     value_type: NodeType,
-    scope: &Scope<'_>,
+    scope: &Scope<'_, H>,
 ) -> Result<Value, Stopped<TrapKind>>
-    ensures { Means (spec.rescaled_part (scale_of value_type) (spec.part_of scope.now value.now)) result }
+    ensures { Means (spec.rescaled_part (scale_of value_type) (spec.part_of (spec.hosted H.answer scope.now) value.now)) result }
 {
     let from = scale_of(value.node.value_type);
     let value = meaning(alloc, value, scope)?;
@@ -234,13 +247,13 @@ fn divided(
 /// A square root.
 #[cycle(expression)]
 #[tactic(auto, unfolding(crate::specs::Expression::root))]
-fn root(
+fn root<H: HostMeaning>(
     alloc: Global,
     value: &TypedExpr,
     value_type: NodeType,
-    scope: &Scope<'_>,
+    scope: &Scope<'_, H>,
 ) -> Result<Value, Stopped<TrapKind>>
-    ensures { Means (spec.root (scale_of value_type) (spec.part_of scope.now value.now)) result }
+    ensures { Means (spec.root (scale_of value_type) (spec.part_of (spec.hosted H.answer scope.now) value.now)) result }
 {
     let from = scale_of(value.node.value_type);
     let value = meaning(alloc, value, scope)?;

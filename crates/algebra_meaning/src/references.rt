@@ -7,10 +7,11 @@ ghost use Rattle.algebra_meaning.specs.Expression as spec;
 use crate::context::ElementContext;
 use crate::parts::no_value;
 use crate::scope::Scope;
+use host_table::HostMeaning;
 use hypergraph::Sets;
 use std::alloc::Global;
 use typed_tree::Referent;
-use value_algebra::{Value, element_in, field_at, field_over, fields_of};
+use value_algebra::{Value, field_at, field_over};
 use vocabulary::NoMemory;
 
 /// A copy of the value of a number; one of no rows where there is none.
@@ -47,13 +48,26 @@ fn first_word(values: &[Value]) -> u64
     }
 }
 
-/// A field of a set.
-fn set_field(alloc: Global, scope: &Scope<'_>, set: u32, field: u32) -> Result<Value, NoMemory>
-    ensures { IfOk result (λ value. value ≡ spec.set_field scope.now set field) }
+/// The word of the second value; 0 where there is none.
+fn second_word(values: &[Value]) -> u64
+    ensures { result ≡ spec.second_word values.now }
 {
-    let element = element_in(scope.program.sets.items(), set);
-    let fields = fields_of(scope.program.elements.items(), element);
-    field_over(alloc, fields, scope.sets, set, field)
+    match values {
+        [] => 0,
+        [_, others @ ..] => first_word(others),
+    }
+}
+
+/// A field of a set.
+fn set_field<H: HostMeaning>(
+    alloc: Global,
+    scope: &Scope<'_, H>,
+    set: u32,
+    field: u32,
+) -> Result<Value, NoMemory>
+    ensures { IfOk result (λ value. value ≡ spec.set_field (spec.hosted H.answer scope.now) set field) }
+{
+    field_over(alloc, scope.program.set_fields(set), scope.sets, set, field)
 }
 
 /// The endpoint of an element of a set at a position; 0 where it has none there.
@@ -88,13 +102,17 @@ pub fn over(sets: &Sets, set: u32) -> Option<u32>
 }
 
 /// A field of a function's element.
-fn own_field(alloc: Global, scope: &Scope<'_>, field: u32) -> Result<Value, NoMemory>
-    ensures { IfOk result (λ value. value ≡ spec.own_field scope.now scope.now.place field) }
+fn own_field<H: HostMeaning>(
+    alloc: Global,
+    scope: &Scope<'_, H>,
+    field: u32,
+) -> Result<Value, NoMemory>
+    ensures { IfOk result (λ value. value ≡ spec.own_field (spec.hosted H.answer scope.now) scope.now.place field) }
 {
     match scope.place {
         None => Ok(no_value(alloc)),
         Some(place) => {
-            let fields = fields_of(scope.program.elements.items(), place.own);
+            let fields = scope.program.element_fields(place.own);
             field_at(
                 alloc,
                 fields,
@@ -108,28 +126,33 @@ fn own_field(alloc: Global, scope: &Scope<'_>, field: u32) -> Result<Value, NoMe
 }
 
 /// A field of an element of a set in which endpoints lie.
-fn field_in(
+fn field_in<H: HostMeaning>(
     alloc: Global,
-    scope: &Scope<'_>,
+    scope: &Scope<'_, H>,
     element_type: u32,
     set: Option<u32>,
     element: u32,
     field: u32,
 ) -> Result<Value, NoMemory>
-    ensures { IfOk result (λ value. value ≡ spec.field_in scope.now element_type set element field) }
+    ensures { IfOk result (λ value. value ≡ spec.field_in (spec.hosted H.answer scope.now) element_type set element field) }
 {
     match set {
         None => Ok(no_value(alloc)),
         Some(set) => {
-            let fields = fields_of(scope.program.elements.items(), element_type);
+            let fields = scope.program.element_fields(element_type);
             field_at(alloc, fields, scope.sets, set, field, element as usize)
         }
     }
 }
 
 /// A field of an endpoint of a function's element.
-fn end_field(alloc: Global, scope: &Scope<'_>, position: u64, field: u32) -> Result<Value, NoMemory>
-    ensures { IfOk result (λ value. value ≡ spec.end_field scope.now scope.now.place position field) }
+fn end_field<H: HostMeaning>(
+    alloc: Global,
+    scope: &Scope<'_, H>,
+    position: u64,
+    field: u32,
+) -> Result<Value, NoMemory>
+    ensures { IfOk result (λ value. value ≡ spec.end_field (spec.hosted H.answer scope.now) scope.now.place position field) }
 {
     let Some(place) = scope.place else {
         return Ok(no_value(alloc));
@@ -145,14 +168,14 @@ fn end_field(alloc: Global, scope: &Scope<'_>, position: u64, field: u32) -> Res
 }
 
 /// What a name stands for, by the values of its arguments and of those after the point.
-pub(crate) fn referred(
+pub(crate) fn referred<H: HostMeaning>(
     alloc: Global,
-    scope: &Scope<'_>,
+    scope: &Scope<'_, H>,
     referent: Referent,
     args: &[Value],
     indices: &[Value],
 ) -> Result<Value, NoMemory>
-    ensures { IfOk result (λ value. value ≡ spec.referred scope.now referent args.now indices.now) }
+    ensures { IfOk result (λ value. value ≡ spec.referred (spec.hosted H.answer scope.now) referent args.now indices.now) }
 {
     match referent {
         Referent::Variable(variable) => value_at(alloc, scope.variables, variable),
@@ -169,6 +192,12 @@ pub(crate) fn referred(
         Referent::End { field } => {
             let value = end_field(alloc, scope, first_word(args), field)?;
             part(alloc, value, indices)
+        }
+        Referent::Host(host) => {
+            let answer = scope
+                .program
+                .call(host, first_word(args), second_word(args));
+            Value::number(alloc, answer)
         }
     }
 }

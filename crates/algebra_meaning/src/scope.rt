@@ -1,23 +1,23 @@
 //! What names stand for.
 
 use crate::context::ElementContext;
+use crate::linked::LinkedProgram;
 use hypergraph::Sets;
 use std::marker::Model;
-use typed_tree::TypedProgram;
 use value_algebra::Value;
 
-/// What the names of an expression stand for: fields of sets, the variables of the main procedure, locals, and in a
-/// function the element and its endpoints.
+/// What the names of an expression stand for: fields of sets, the variables of the main procedure, locals, host
+/// functions, and in a function the element and its endpoints.
 #[derive(Drop)]
-pub struct Scope<'a> {
-    pub program: &'a TypedProgram,
+pub struct Scope<'a, H> {
+    pub program: &'a LinkedProgram<'a, H>,
     pub sets: &'a Sets,
     pub variables: &'a [Value],
     pub locals: &'a [Value],
     pub place: Option<ElementContext>,
 }
 
-impl<'a> Model for Scope<'a> {
+impl<'a, H> Model for Scope<'a, H> {
     ghost use Rattle.std.specs.Coded.{codes};
     ghost use Rattle.sim_syntax.specs.contracts.expression.Expr as tree_expression;
     ghost use Rattle.sim_syntax.specs.contracts.statement.Stmt as tree_statement;
@@ -26,7 +26,7 @@ impl<'a> Model for Scope<'a> {
     ghost use Rattle.typed_tree.specs.contracts.main_procedure.MainStmt as main;
     ghost use Rattle.algebra_meaning.specs.Expression as spec;
 
-    ghost Value = { spec.Scope };
+    ghost Value = { spec.Visible };
 
     ghost coded = { Prim.hlevel (codes, tree_expression.the_row.coded, tree_statement.the_row.coded, expression.the_row.coded, function.the_row.coded, main.the_row.coded) };
 

@@ -1,6 +1,5 @@
 //! How many words the dense matrices of runs take: worked out by hand, and by conformance/reference.py.
-use crate::combined::{DECLARATIONS, OVER_LINKS};
-use crate::graphs::{graph, points_alone};
+use crate::graphs::{DECLARATIONS, OVER_LINKS, graph, points_alone};
 use crate::typing::typed;
 use dense_sizes::dense_words;
 use hypergraph::Sets;

@@ -1,6 +1,5 @@
 //! The schemas of a program's sets, and fields that are assigned whole.
-use crate::combined::DECLARATIONS;
-use crate::graphs::graph;
+use crate::graphs::{DECLARATIONS, graph};
 use crate::typing::typed;
 use block_types::Typed;
 use hypergraph::Sets;

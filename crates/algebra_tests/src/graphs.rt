@@ -1,10 +1,25 @@
-//! Sets of points and of links between them.
+//! Declarations of points and of links between them, and sets of these.
 ghost use Rattle.std.specs.Prelude.{◌≡◌, ◌≤◌, IfOk, length, None, Some};
 
 use hypergraph::{SetData, Sets};
 use std::alloc::{AllocError, Global};
 use std::test::Fail;
 use vocabulary::L;
+
+/// Points with blocks, and links between points.
+pub const DECLARATIONS: &str =
+    "element P x : int(0); y : int(2); v : vector[2](int(0)); m : matrix[2,2](int(0)); end
+element L k : int(0); w : vector[2](int(0)); h : int(2); end
+extern ps : set{P};
+extern ls : set{L}(ps, ps);
+";
+
+/// The heading of a function over links, which may write a vector of blocks, numbers at the links, a matrix of blocks, and
+/// a matrix of numbers whose sides are two sets.
+pub const OVER_LINKS: &str =
+    "func f(a : int(0), s : L, p : (P*2)) -> (b : vector[ps](vector[2](int(0))),
+    e : vector[ls](int(0)), K : matrix[ps,ps](matrix[2,2](int(0))), M : matrix[ls,ps](int(0)))
+";
 
 /// A column of numbers.
 fn column(alloc: Global, numbers: &[i64]) -> Result<L<u64>, AllocError>

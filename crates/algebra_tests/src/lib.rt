@@ -4,16 +4,12 @@
 #![tactic(auto)]
 
 #[cfg(test)]
-mod both_runs;
-#[cfg(test)]
-mod combined;
-#[cfg(test)]
 mod dense;
-#[cfg(test)]
-mod endings;
 #[cfg(test)]
 mod fields;
 #[cfg(test)]
 mod graphs;
+#[cfg(test)]
+mod turns;
 #[cfg(test)]
 mod typing;

@@ -14,7 +14,7 @@ pub fn typed(rt: &(impl Abort + AllocGlobal), text: &str) -> Result<Typed, Fail>
     let Ok(lowered) = Lowered::of(program) else {
         return Err(Fail::new("an index expression"));
     };
-    match check(rt.alloc(), lowered) {
+    match check(rt.alloc(), lowered, &[]) {
         Ok(typed) => Ok(typed),
         Err(fault) => panic!(rt; "{fault:?} of {text}"),
     }

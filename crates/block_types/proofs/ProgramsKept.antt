@@ -4,6 +4,7 @@ use Rattle.std.specs.Prelude.{◌↔◌, All, IfSome, IsNone, is_some, slice_get
 use Rattle.std.specs.Option.{option_and_then}
 use Rattle.std.proofs.lemmas.Option.{slice_get_cases, slice_get_within}
 use Rattle.vocabulary.specs.declared.limits.TheConstants.{MOST_COLUMNS, MOST_ENDPOINTS, MOST_FIELD_SCALE}
+use Rattle.host_table.specs.declared.table.HostName.{HostName}
 use Rattle.sim_syntax.specs.declared.declaration.Decl.{Decl}
 use Rattle.sim_syntax.specs.declared.program.Program.{Program}
 use Rattle.typed_tree.specs.declared.environment.Environment.{Environment}
@@ -42,16 +43,16 @@ lies_over env ends over (LieIn.together name names number each) kept =
     let vertices = (kept.each number set at).over_none.0 (ap is_some each.0.1.2) in
     ((λ none. absurd (cc), λ none. absurd (omega arith)), (slice_get_within env.declarations.sets number set at, ap arity_in at ∙ vertices))
 
--- an element type, a set or a function more
-declaration_keeps : (d : Decl) (before after : Walk) → IsDeclaration d before after → Keeps before → Keeps after
-declaration_keeps d before after (IsDeclaration.element_type line name fields made walk are few new) keeps =
+-- an element type, a set, a function or a host function more
+declaration_keeps : (hosts : List HostName) (d : Decl) (before after : Walk) → IsDeclaration hosts d before after → Keeps before → Keeps after
+declaration_keeps hosts d before after (IsDeclaration.element_type line name fields made walk are few new) keeps =
     let elements = walk.environment.declarations.elements in
     let element : ElementType = record { fields = made } in
     record {
       kept = with_element_kept elements walk.environment.declarations.sets element keeps.kept (fields_small [] fields made are);
       names = with_element_name walk.environment.names elements name element keeps.names;
     }
-declaration_keeps d before after (IsDeclaration.new_set line name element_name ends element over walk means lie few columns room new) keeps =
+declaration_keeps hosts d before after (IsDeclaration.new_set line name element_name ends element over walk means lie few columns room new) keeps =
     let elements = walk.environment.declarations.elements in
     let sets = walk.environment.declarations.sets in
     let set : TypedSet = record { name = name; shape = record { element = element; over = over; arity = length ends } } in
@@ -67,7 +68,7 @@ declaration_keeps d before after (IsDeclaration.new_set line name element_name e
       kept = with_set_kept elements sets set keeps.kept room k;
       names = with_other_name walk.environment.names elements name (meaning.Set (length sets)) (λ n is. absurd (cc)) keeps.names;
     }
-declaration_keeps d before after (IsDeclaration.new_function line name params results body types signature result_types done made walk named begun end ps rs s are is_signature arguments few cheap new) keeps =
+declaration_keeps hosts d before after (IsDeclaration.new_function line name params results body types signature result_types done made walk named begun end ps rs s are is_signature arguments few cheap new) keeps =
     let function : Meaning = meaning.Function (length end.environment.declarations.functions) in
     let leaves : Leaves walk end = on walk named end (parameters_leave params types walk named ps) (on named begun end (results_leave 0 results result_types named begun rs) (body_leaves body done begun end s)) in
     record {
@@ -76,11 +77,17 @@ declaration_keeps d before after (IsDeclaration.new_function line name params re
       names = with_other_name walk.environment.names end.environment.declarations.elements name function (λ n is. absurd (cc))
           (subst (λ es. AreInRange walk.environment.names es) (sym leaves.elements) keeps.names);
     }
+declaration_keeps hosts d before after (IsDeclaration.host_function line name args result number host scales scale walk is_host arity are whole new) keeps =
+    let function : Meaning = meaning.Host (record { number = number; arguments = scales; scale = scale }) in
+    record {
+      kept = keeps.kept;
+      names = with_other_name walk.environment.names walk.environment.declarations.elements name function (λ n is. absurd (cc)) keeps.names;
+    }
 
-declarations_keep : (ds : List Decl) (before after : Walk) → AreDeclarations ds before after → Keeps before → Keeps after
-declarations_keep ds before after (AreDeclarations.none walk) keeps = keeps
-declarations_keep ds before after (AreDeclarations.one_more d rest walk between end one next) keeps =
-    declarations_keep rest between end next (declaration_keeps d walk between one keeps)
+declarations_keep : (hosts : List HostName) (ds : List Decl) (before after : Walk) → AreDeclarations hosts ds before after → Keeps before → Keeps after
+declarations_keep hosts ds before after (AreDeclarations.none walk) keeps = keeps
+declarations_keep hosts ds before after (AreDeclarations.one_more d rest walk between end one next) keeps =
+    declarations_keep hosts rest between end next (declaration_keeps hosts d walk between one keeps)
 
 at_first_keeps : Keeps at_first
 at_first_keeps = record { kept = none_kept; names = record { each = λ name element is. absurd (cc) } }
@@ -116,9 +123,9 @@ all_well_declared program kept = record {
 }
 
 -- what is a typing of a program is well declared
-pub well_declared : (tree : Program) (program : TypedProgram) → IsProgramTyping tree program → WellDeclared program
-well_declared tree program (IsProgramTyping.program t walk after body are main) =
-    let keeps = declarations_keep t.decls at_first walk are at_first_keeps in
+pub well_declared : (hosts : List HostName) (tree : Program) (program : TypedProgram) → IsProgramTyping hosts tree program → WellDeclared program
+well_declared hosts tree program (IsProgramTyping.program t walk after body are main) =
+    let keeps = declarations_keep hosts t.decls at_first walk are at_first_keeps in
     let leaves = main_body_leaves t.body body (before_main walk) after main in
     all_well_declared _ (subst (λ es. AreKept es after.environment.declarations.sets) (sym leaves.elements)
     (subst (λ ss. AreKept walk.environment.declarations.elements ss) (sym leaves.sets) keeps.kept))

@@ -1,5 +1,6 @@
 -- A program's tree and what was typed of it.
-use Rattle.std.specs.Prelude.{◌≡◌, ◌⊎◌, Result, Ok, Err}
+use Rattle.std.specs.Prelude.{◌≡◌, ◌⊎◌, List, Result, Ok, Err}
+use Rattle.host_table.specs.declared.table.HostName.{HostName}
 use Rattle.sim_syntax.specs.declared.program.Program.{Program}
 use Rattle.typed_tree.specs.declared.fault.CheckFault.{CheckFault}
 use Rattle.typed_tree.specs.declared.fault.CheckFault.TheVariants.{Memory}
@@ -18,6 +19,6 @@ whole tree parts = record {
 }
 
 -- with its tree, the parts are the typed program; a fault is its own, or out of memory
-abbrev pub ArePartsOf : Program → Result Parts CheckFault → Type 0
-ArePartsOf tree (Ok parts) = typed tree ≡ Ok (whole tree parts)
-ArePartsOf tree (Err fault) = (fault ≡ Memory) ⊎ (typed tree ≡ Err fault)
+abbrev pub ArePartsOf : List HostName → Program → Result Parts CheckFault → Type 0
+ArePartsOf hosts tree (Ok parts) = typed hosts tree ≡ Ok (whole tree parts)
+ArePartsOf hosts tree (Err fault) = (fault ≡ Memory) ⊎ (typed hosts tree ≡ Err fault)

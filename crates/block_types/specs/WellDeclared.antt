@@ -1,6 +1,7 @@
 -- What the declarations of a typed program keep.
-use Rattle.std.specs.Prelude.{◌≡◌, ℕ, ◌+◌, ◌<◌, ◌≤◌, ◌↔◌, length, All, slice_get, Option, Some, None, IsNone, IfSome, Ok}
+use Rattle.std.specs.Prelude.{◌≡◌, ℕ, ◌+◌, ◌<◌, ◌≤◌, ◌↔◌, List, length, All, slice_get, Option, Some, None, IsNone, IfSome, Ok}
 use Rattle.vocabulary.specs.declared.limits.TheConstants.{MOST_COLUMNS, MOST_ENDPOINTS, MOST_FIELD_SCALE, MOST_SETS}
+use Rattle.host_table.specs.declared.table.HostName.{HostName}
 use Rattle.sim_syntax.specs.declared.program.Program.{Program}
 use Rattle.typed_tree.specs.declared.program.TypedProgram.{TypedProgram}
 use Rattle.typed_tree.specs.declared.program.TypedSet.{TypedSet}
@@ -31,4 +32,4 @@ pub record WellDeclared (program : TypedProgram) : Type 0 where
 
 -- what is typed is well declared
 abbrev pub WellDeclaredLaw : Type 0
-WellDeclaredLaw = (tree : Program) (program : TypedProgram) → typed tree ≡ Ok program → WellDeclared program
+WellDeclaredLaw = (hosts : List HostName) (tree : Program) (program : TypedProgram) → typed hosts tree ≡ Ok program → WellDeclared program

@@ -13,6 +13,7 @@ ghost use Rattle.block_types.specs.WellDeclared.{WellDeclaredLaw};
 use crate::laws::well_declared_law;
 use crate::typed::Typed;
 use declaration_types::declarations;
+use host_table::HostName;
 use main_types::main_statements;
 use sim_syntax::{Lowered, Program, Stmt};
 use sqlite_items::Items;
@@ -63,13 +64,13 @@ struct Parts {
     body: Items<MainStmt>,
 }
 
-/// The parts of a program's tree, or its first fault.
+/// The parts of a program's tree, by the names of the host functions, or its first fault.
 #[tactic(auto, unfolding(typed_tree::specs::Typed::typed, typed_tree::specs::Typed::program_of))]
-fn parts_of(alloc: Global, tree: &Program) -> Result<Parts, CheckFault>
-    ensures { parts.ArePartsOf tree.now result }
+fn parts_of(alloc: Global, tree: &Program, hosts: &[HostName]) -> Result<Parts, CheckFault>
+    ensures { parts.ArePartsOf hosts.now tree.now result }
 {
     let mut walk = beginning(alloc);
-    declarations(alloc, tree.decls.as_slice(), &mut walk)?;
+    declarations(alloc, hosts, tree.decls.as_slice(), &mut walk)?;
     let body = main_procedure(alloc, tree.body.as_slice(), &mut walk)?;
     Ok(Parts {
         declarations: walk.environment.declarations,
@@ -78,15 +79,16 @@ fn parts_of(alloc: Global, tree: &Program) -> Result<Parts, CheckFault>
 }
 
 /// The typed program of a program: each name resolved and each expression with its type, or the first fault in the order
-/// of the text, a node after its parts. Of the kinds that apply at one node the first in their order is named.
-pub fn check(alloc: Global, program: Lowered) -> Result<Typed, CheckFault>
-    ensures answered { Answers Memory (whole.typed program) result }
+/// of the text, a node after its parts. Of the kinds that apply at one node the first in their order is named. The program
+/// may declare the host functions of these names, each of which has the number that is its index.
+pub fn check(alloc: Global, program: Lowered, hosts: &[HostName]) -> Result<Typed, CheckFault>
+    ensures answered { Answers Memory (whole.typed hosts.now program) result }
     ensures judged { ProgramLaws }
     ensures declared { WellDeclaredLaw }
 {
     program_typing_law();
     well_declared_law();
-    let parts = parts_of(alloc, program.program())?;
+    let parts = parts_of(alloc, program.program(), hosts)?;
     let declarations = parts.declarations;
     Typed::of(
         alloc,

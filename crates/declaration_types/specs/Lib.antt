@@ -1,3 +1,4 @@
 pub mod Functions
+pub mod Hosts
 pub mod Parameters
 pub mod Reserved

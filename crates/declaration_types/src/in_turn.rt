@@ -6,16 +6,22 @@ ghost use Rattle.typed_tree.specs.Declarations as spec;
 
 use crate::elements::element_declaration;
 use crate::functions::function_declaration;
+use crate::hosts::host_declaration;
 use crate::sets::set_declaration;
+use host_table::HostName;
 use sim_syntax::Decl;
 use std::alloc::Global;
-use type_rules::TypeKind;
 use typed_tree::{CheckFault, Walk};
 
-/// A declaration.
+/// A declaration, by what the host offers.
 #[tactic(auto, unfolding(typed_tree::specs::Declarations::declaration))]
-fn declaration<'a>(alloc: Global, declared: &'a Decl, walk: &mut Walk<'a>) -> Result<(), CheckFault>
-    ensures { Leads (spec.declaration walk.old declared.now) result walk.new }
+fn declaration<'a>(
+    alloc: Global,
+    hosts: &[HostName],
+    declared: &'a Decl,
+    walk: &mut Walk<'a>,
+) -> Result<(), CheckFault>
+    ensures { Leads (spec.declaration hosts.now walk.old declared.now) result walk.new }
 {
     match declared {
         Decl::Element { line, name, fields } => {
@@ -27,10 +33,12 @@ fn declaration<'a>(alloc: Global, declared: &'a Decl, walk: &mut Walk<'a>) -> Re
             element,
             ends,
         } => set_declaration(alloc, *line, name, element, ends.as_slice(), walk),
-        Decl::Host { line, .. } => Err(CheckFault::IllTyped {
-            line: *line,
-            kind: TypeKind::Unknown,
-        }),
+        Decl::Host {
+            line,
+            name,
+            args,
+            result,
+        } => host_declaration(alloc, hosts, *line, name, args.as_slice(), result, walk),
         Decl::Func {
             line,
             name,
@@ -49,17 +57,18 @@ fn declaration<'a>(alloc: Global, declared: &'a Decl, walk: &mut Walk<'a>) -> Re
     }
 }
 
-/// Declarations, one after the other.
+/// Declarations, one after the other, by the names of the host functions.
 #[tactic(auto, using(crate::proofs::Folds::one_more, crate::proofs::Folds::one_refused, crate::proofs::Folds::none_left))]
 pub fn declarations<'a>(
     alloc: Global,
+    hosts: &[HostName],
     declared: &'a [Decl],
     walk: &mut Walk<'a>,
 ) -> Result<(), CheckFault>
-    ensures { Leads (fold_result spec.declaration walk.old declared.now) result walk.new }
+    ensures { Leads (fold_result (spec.declaration hosts.now) walk.old declared.now) result walk.new }
 {
     for one in declared {
-        declaration(alloc, one, walk)?;
+        declaration(alloc, hosts, one, walk)?;
     }
     Ok(())
 }

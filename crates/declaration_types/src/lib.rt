@@ -1,8 +1,9 @@
-//! The types of declarations: element types, sets and functions.
+//! The types of declarations: element types, sets, functions, and functions of the host.
 #![tactic(auto)]
 
 mod elements;
 mod functions;
+mod hosts;
 mod in_turn;
 mod parameters;
 mod rules;

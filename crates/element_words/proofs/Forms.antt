@@ -13,11 +13,11 @@ use Rattle.typed_tree.specs.declared.expression.TypedForm.{TypedForm}
 use Rattle.value_algebra.specs.declared.value.Value.{Value}
 use Rattle.value_algebra.specs.Scales as scales
 use Rattle.value_algebra.specs.Value.{dot, number, word_of}
-use Rattle.algebra_meaning.specs.Expression.{Meant, Operand, Part, Scope, expression_part, factor_operand, first_word, form_meaning, form_of, meaning, meanings, or_trap, own_field, end_field, part, part_of, quotient, reference, referred, root, row_values, scalar_product, term_operand, value_at}
+use Rattle.algebra_meaning.specs.Expression.{Meant, Operand, Part, Scope, expression_part, factor_operand, first_word, form_meaning, form_of, meaning, meanings, or_trap, own_field, end_field, part, part_of, quotient, reference, referred, root, row_values, scalar_product, second_word, term_operand, value_at}
 use Rattle.typed_tree.specs.declared.expression.Referent.{Referent}
 use Rattle.typed_tree.specs.declared.expression.Referent.TheVariants as referent
 use Rattle.word_stacks.specs.declared.indices.Indices.{Indices}
-use Rattle.word_stacks.specs.References.{first_index, first_meant, indices_of, part_at, referred_at}
+use Rattle.word_stacks.specs.References.{first_index, first_meant, indices_of, part_at, referred_at, second_index}
 use Rattle.word_stacks.specs.Steps.{divided, dot_with, indices_meant, rooted, word_or}
 
 -- the type of a part is its node's
@@ -124,6 +124,11 @@ first_is [] = refl
 first_is (i ∷ []) = refl
 first_is (i ∷ j ∷ is) = refl
 
+second_is : (is : List Value) → second_word is ≡ second_index (indices_of is)
+second_is [] = refl
+second_is (i ∷ []) = refl
+second_is (i ∷ j ∷ is) = refl
+
 referred_is : (scope : Scope) (what : Referent) (args indices : List Value) → referred scope what args indices ≡ referred_at scope what (indices_of args) (indices_of indices)
 referred_is scope (referent.Variable variable) args indices = refl
 referred_is scope (referent.Local local) args indices = part_is (value_at scope.locals local) args
@@ -133,6 +138,9 @@ referred_is scope (referent.Own field) args indices = part_is (own_field scope s
 referred_is scope (referent.End field) args indices =
     part_is (end_field scope scope.place (first_word args) field) indices
     ∙ ap (λ n. part_at (end_field scope scope.place n field) (indices_of indices)) (first_is args)
+referred_is scope (referent.Host host) args indices =
+    ap (λ n. number (scope.program.answer host n (second_word args))) (first_is args)
+    ∙ ap (λ n. number (scope.program.answer host (first_index (indices_of args)) n)) (second_is args)
 
 refers : (scope : Scope) (what : Referent) (m n : Result (List Value) TrapKind) (a i : Indices) → indices_meant m ≡ Ok a → indices_meant n ≡ Ok i
     → (m >>= λ args. n >>= λ indices. Ok (referred scope what args indices)) ≡ Ok (referred_at scope what a i)

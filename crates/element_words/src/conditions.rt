@@ -7,18 +7,19 @@ ghost use Rattle.algebra_meaning.specs.Means.{Means};
 
 use crate::expression::word;
 use algebra_meaning::{Stopped, condition_laws, held};
+use host_table::HostMeaning;
 use ring_words::TrapKind;
 use typed_tree::{TypedCmp, TypedCond, TypedConjunction};
 use word_stacks::Words;
 
 /// Whether a comparison holds, or the first trap.
 #[tactic(auto, using(crate::proofs::Compared::comparison_is, crate::proofs::Compared::comparison_first, crate::proofs::Compared::comparison_second))]
-fn comparison(
+fn comparison<H: HostMeaning>(
     cmp: &TypedCmp,
-    scope: &Words<'_>,
+    scope: &Words<'_, H>,
     stack: &mut Vec<u64>,
 ) -> Result<bool, Stopped<TrapKind>>
-    ensures value { Means (meaning.comparison scope.now cmp.now) result }
+    ensures value { Means (meaning.comparison (meaning.hosted H.answer scope.now) cmp.now) result }
     ensures kept { OnOk result (stack.new.items ≡ stack.old.items) }
 {
     let left = word(&cmp.left, scope, stack)?;
@@ -28,12 +29,12 @@ fn comparison(
 
 /// Whether comparisons hold together, or the first trap.
 #[tactic(auto, unfolding(algebra_meaning::specs::Expression::conjunction))]
-fn conjunction(
+fn conjunction<H: HostMeaning>(
     conjunction: &TypedConjunction,
-    scope: &Words<'_>,
+    scope: &Words<'_, H>,
     stack: &mut Vec<u64>,
 ) -> Result<bool, Stopped<TrapKind>>
-    ensures value { Means (meaning.conjunction scope.now conjunction.now) result }
+    ensures value { Means (meaning.conjunction (meaning.hosted H.answer scope.now) conjunction.now) result }
     ensures kept { OnOk result (stack.new.items ≡ stack.old.items) }
 {
     condition_laws::<TypedCmp>();
@@ -47,12 +48,12 @@ fn conjunction(
 
 /// Whether a condition holds, or the first trap. The stack is as before unless there is a trap, or memory runs out.
 #[tactic(auto, unfolding(algebra_meaning::specs::Expression::holds))]
-pub fn holds(
+pub fn holds<H: HostMeaning>(
     cond: &TypedCond,
-    scope: &Words<'_>,
+    scope: &Words<'_, H>,
     stack: &mut Vec<u64>,
 ) -> Result<bool, Stopped<TrapKind>>
-    ensures value { Means (meaning.holds scope.now cond.now) result }
+    ensures value { Means (meaning.holds (meaning.hosted H.answer scope.now) cond.now) result }
     ensures kept { OnOk result (stack.new.items ≡ stack.old.items) }
 {
     condition_laws::<TypedConjunction>();

@@ -9,6 +9,7 @@ ghost use Rattle.word_stacks.specs.Stack as spec;
 ghost use Rattle.word_stacks.specs.Steps as steps;
 
 use algebra_meaning::{Stopped, block_in, expression_laws};
+use host_table::HostMeaning;
 use loop_laws::item_laws;
 use ring_words::TrapKind;
 use type_rules::{NodeType, scale_of};
@@ -22,12 +23,12 @@ use word_stacks::{
 
 /// What an expression means: a number, or words on the stack; or the first trap.
 #[cycle(expression)]
-pub(crate) fn operand(
+pub(crate) fn operand<H: HostMeaning>(
     e: &TypedExpr,
-    scope: &Words<'_>,
+    scope: &Words<'_, H>,
     stack: &mut Vec<u64>,
 ) -> Result<Operand, Stopped<TrapKind>>
-    ensures value { spec.Leaves (meaning.meaning scope.now e.now) result (drop (length stack.old.items) stack.new.items) }
+    ensures value { spec.Leaves (meaning.meaning (meaning.hosted H.answer scope.now) e.now) result (drop (length stack.old.items) stack.new.items) }
     ensures kept { OnOk result (take (length stack.old.items) stack.new.items ≡ stack.old.items) }
 {
     let operand = form_operand(&e.form, e.node.value_type, scope, stack)?;
@@ -37,13 +38,13 @@ pub(crate) fn operand(
 /// What a form of a type means.
 #[cycle(expression)]
 #[tactic(auto, unfolding(algebra_meaning::specs::Expression::form_meaning))]
-fn form_operand(
+fn form_operand<H: HostMeaning>(
     form: &TypedForm,
     value_type: NodeType,
-    scope: &Words<'_>,
+    scope: &Words<'_, H>,
     stack: &mut Vec<u64>,
 ) -> Result<Operand, Stopped<TrapKind>>
-    ensures value { spec.Leaves (meaning.form_of scope.now form.now value_type) result (drop (length stack.old.items) stack.new.items) }
+    ensures value { spec.Leaves (meaning.form_of (meaning.hosted H.answer scope.now) form.now value_type) result (drop (length stack.old.items) stack.new.items) }
     ensures kept { OnOk result (take (length stack.old.items) stack.new.items ≡ stack.old.items) }
 {
     match form {
@@ -83,12 +84,12 @@ fn form_operand(
 
 /// The first word of what an expression means, which is a number's word, or the first trap.
 #[cycle(expression)]
-pub(crate) fn word(
+pub(crate) fn word<H: HostMeaning>(
     e: &TypedExpr,
-    scope: &Words<'_>,
+    scope: &Words<'_, H>,
     stack: &mut Vec<u64>,
 ) -> Result<u64, Stopped<TrapKind>>
-    ensures value { Means (first_meant (meaning.meaning scope.now e.now)) result }
+    ensures value { Means (first_meant (meaning.meaning (meaning.hosted H.answer scope.now) e.now)) result }
     ensures kept { OnOk result (stack.new.items ≡ stack.old.items) }
 {
     let base = stack.len();
@@ -101,12 +102,12 @@ pub(crate) fn word(
 /// The words of indices, or the first trap.
 #[cycle(expression)]
 #[tactic(auto, using(crate::proofs::Folds::index_taken, crate::proofs::Folds::index_stopped, crate::proofs::Folds::indices_begun, crate::proofs::Folds::indices_ended))]
-fn indices(
+fn indices<H: HostMeaning>(
     expressions: &[TypedExpr],
-    scope: &Words<'_>,
+    scope: &Words<'_, H>,
     stack: &mut Vec<u64>,
 ) -> Result<Indices, Stopped<TrapKind>>
-    ensures value { Means (steps.indices_meant (meaning.meanings scope.now expressions.now)) result }
+    ensures value { Means (steps.indices_meant (meaning.meanings (meaning.hosted H.answer scope.now) expressions.now)) result }
     ensures kept { OnOk result (stack.new.items ≡ stack.old.items) }
 {
     item_laws::<Indices, TypedExpr, TrapKind>();
@@ -121,12 +122,12 @@ fn indices(
 /// Pushes the words of the entries of a row of a block.
 #[cycle(expression)]
 #[tactic(auto, using(crate::proofs::Folds::entry_taken, crate::proofs::Folds::entry_stopped, crate::proofs::Folds::entries_begun, crate::proofs::Folds::entries_ended))]
-fn push_row(
+fn push_row<H: HostMeaning>(
     expressions: &[TypedExpr],
-    scope: &Words<'_>,
+    scope: &Words<'_, H>,
     stack: &mut Vec<u64>,
 ) -> Result<(), Stopped<TrapKind>>
-    ensures value { steps.Pushes (steps.words_meant (meaning.meanings scope.now expressions.now)) result (drop (length stack.old.items) stack.new.items) }
+    ensures value { steps.Pushes (steps.words_meant (meaning.meanings (meaning.hosted H.answer scope.now) expressions.now)) result (drop (length stack.old.items) stack.new.items) }
     ensures kept { OnOk result (take (length stack.old.items) stack.new.items ≡ stack.old.items) }
 {
     item_laws::<L<u64>, TypedExpr, TrapKind>();
@@ -140,12 +141,12 @@ fn push_row(
 /// Pushes the words of the rows of a block, one row after the other.
 #[cycle(expression)]
 #[tactic(auto, using(crate::proofs::Folds::words_taken, crate::proofs::Folds::words_stopped))]
-fn push_rows(
+fn push_rows<H: HostMeaning>(
     rows: &[TypedRow],
-    scope: &Words<'_>,
+    scope: &Words<'_, H>,
     stack: &mut Vec<u64>,
 ) -> Result<(), Stopped<TrapKind>>
-    ensures value { steps.Pushes (meaning.entries (map (meaning.row_of scope.now) rows.now)) result (drop (length stack.old.items) stack.new.items) }
+    ensures value { steps.Pushes (meaning.entries (map (meaning.row_of (meaning.hosted H.answer scope.now)) rows.now)) result (drop (length stack.old.items) stack.new.items) }
     ensures kept { OnOk result (take (length stack.old.items) stack.new.items ≡ stack.old.items) }
 {
     expression_laws();
@@ -158,13 +159,13 @@ fn push_rows(
 /// What a block of rows means.
 #[cycle(expression)]
 #[tactic(auto, unfolding(algebra_meaning::specs::Expression::written))]
-fn block(
+fn block<H: HostMeaning>(
     rows: &[TypedRow],
     value_type: NodeType,
-    scope: &Words<'_>,
+    scope: &Words<'_, H>,
     stack: &mut Vec<u64>,
 ) -> Result<Operand, Stopped<TrapKind>>
-    ensures value { spec.Leaves (meaning.written value_type (map (meaning.row_of scope.now) rows.now)) result (drop (length stack.old.items) stack.new.items) }
+    ensures value { spec.Leaves (meaning.written value_type (map (meaning.row_of (meaning.hosted H.answer scope.now)) rows.now)) result (drop (length stack.old.items) stack.new.items) }
     ensures kept { OnOk result (take (length stack.old.items) stack.new.items ≡ stack.old.items) }
 {
     push_rows(rows, scope, stack)?;
@@ -174,15 +175,15 @@ fn block(
 /// A sum so far, whose words stand from an index on, with another term.
 #[cycle(expression)]
 #[tactic(auto, unfolding(word_stacks::specs::Steps::added_meant), using(crate::proofs::Parts::room, crate::proofs::Parts::below_kept, crate::proofs::Parts::range_before, crate::proofs::Parts::still_room))]
-fn next_total(
+fn next_total<H: HostMeaning>(
     total: Option<Operand>,
     term: &TypedTerm,
     base: usize,
-    scope: &Words<'_>,
+    scope: &Words<'_, H>,
     stack: &mut Vec<u64>,
 ) -> Result<Operand, Stopped<TrapKind>>
     requires { base ≤ vec_len stack.old }
-    ensures value { spec.Leaves (steps.added_meant (steps.total_of total (drop base stack.old.items)) term.now.minus (meaning.meaning scope.now term.now.value)) result (drop base stack.new.items) }
+    ensures value { spec.Leaves (steps.added_meant (steps.total_of total (drop base stack.old.items)) term.now.minus (meaning.meaning (meaning.hosted H.answer scope.now) term.now.value)) result (drop base stack.new.items) }
     ensures kept { OnOk result (take base stack.new.items ≡ take base stack.old.items) }
     ensures within { OnOk result (base ≤ vec_len stack.new) }
 {
@@ -195,12 +196,12 @@ fn next_total(
 /// The total of terms; none where there are none.
 #[cycle(expression)]
 #[tactic(auto, using(crate::proofs::Folds::term_added, crate::proofs::Folds::term_refused))]
-fn total(
+fn total<H: HostMeaning>(
     terms: &[TypedTerm],
-    scope: &Words<'_>,
+    scope: &Words<'_, H>,
     stack: &mut Vec<u64>,
 ) -> Result<Option<Operand>, Stopped<TrapKind>>
-    ensures value { steps.LeavesTotal (meaning.total (map (meaning.term_of scope.now) terms.now)) result (drop (length stack.old.items) stack.new.items) }
+    ensures value { steps.LeavesTotal (meaning.total (map (meaning.term_of (meaning.hosted H.answer scope.now)) terms.now)) result (drop (length stack.old.items) stack.new.items) }
     ensures kept { OnOk result (take (length stack.old.items) stack.new.items ≡ stack.old.items) }
 {
     expression_laws();
@@ -216,12 +217,12 @@ fn total(
 /// What a sum means.
 #[cycle(expression)]
 #[tactic(auto, unfolding(algebra_meaning::specs::Expression::sum))]
-fn sum(
+fn sum<H: HostMeaning>(
     terms: &[TypedTerm],
-    scope: &Words<'_>,
+    scope: &Words<'_, H>,
     stack: &mut Vec<u64>,
 ) -> Result<Operand, Stopped<TrapKind>>
-    ensures value { spec.Leaves (meaning.sum (map (meaning.term_of scope.now) terms.now)) result (drop (length stack.old.items) stack.new.items) }
+    ensures value { spec.Leaves (meaning.sum (map (meaning.term_of (meaning.hosted H.answer scope.now)) terms.now)) result (drop (length stack.old.items) stack.new.items) }
     ensures kept { OnOk result (take (length stack.old.items) stack.new.items ≡ stack.old.items) }
 {
     let base = stack.len();
@@ -232,15 +233,15 @@ fn sum(
 /// A product so far with its type, whose words stand from an index on, with another factor.
 #[cycle(expression)]
 #[tactic(auto, unfolding(word_stacks::specs::Steps::multiplied_meant), using(crate::proofs::Parts::room, crate::proofs::Parts::below_kept, crate::proofs::Parts::range_before, crate::proofs::Parts::still_room))]
-fn next_product(
+fn next_product<H: HostMeaning>(
     so_far: Option<(NodeType, Operand)>,
     factor: &TypedFactor,
     base: usize,
-    scope: &Words<'_>,
+    scope: &Words<'_, H>,
     stack: &mut Vec<u64>,
 ) -> Result<Operand, Stopped<TrapKind>>
     requires { base ≤ vec_len stack.old }
-    ensures value { spec.Leaves (steps.multiplied_meant (steps.product_of so_far (drop base stack.old.items)) factor.now.entrywise factor.now.value.node.value_type (meaning.meaning scope.now factor.now.value)) result (drop base stack.new.items) }
+    ensures value { spec.Leaves (steps.multiplied_meant (steps.product_of so_far (drop base stack.old.items)) factor.now.entrywise factor.now.value.node.value_type (meaning.meaning (meaning.hosted H.answer scope.now) factor.now.value)) result (drop base stack.new.items) }
     ensures kept { OnOk result (take base stack.new.items ≡ take base stack.old.items) }
     ensures within { OnOk result (base ≤ vec_len stack.new) }
 {
@@ -262,12 +263,12 @@ fn next_product(
 /// The product of factors with its type; none where there are none.
 #[cycle(expression)]
 #[tactic(auto, using(crate::proofs::Folds::factor_multiplied, crate::proofs::Folds::factor_refused))]
-fn chain(
+fn chain<H: HostMeaning>(
     factors: &[TypedFactor],
-    scope: &Words<'_>,
+    scope: &Words<'_, H>,
     stack: &mut Vec<u64>,
 ) -> Result<Option<(NodeType, Operand)>, Stopped<TrapKind>>
-    ensures value { steps.LeavesProduct (meaning.chain (map (meaning.factor_of scope.now) factors.now)) result (drop (length stack.old.items) stack.new.items) }
+    ensures value { steps.LeavesProduct (meaning.chain (map (meaning.factor_of (meaning.hosted H.answer scope.now)) factors.now)) result (drop (length stack.old.items) stack.new.items) }
     ensures kept { OnOk result (take (length stack.old.items) stack.new.items ≡ stack.old.items) }
 {
     expression_laws();
@@ -283,12 +284,12 @@ fn chain(
 /// What a product means.
 #[cycle(expression)]
 #[tactic(auto, unfolding(algebra_meaning::specs::Expression::product))]
-fn product(
+fn product<H: HostMeaning>(
     factors: &[TypedFactor],
-    scope: &Words<'_>,
+    scope: &Words<'_, H>,
     stack: &mut Vec<u64>,
 ) -> Result<Operand, Stopped<TrapKind>>
-    ensures value { spec.Leaves (meaning.product (map (meaning.factor_of scope.now) factors.now)) result (drop (length stack.old.items) stack.new.items) }
+    ensures value { spec.Leaves (meaning.product (map (meaning.factor_of (meaning.hosted H.answer scope.now)) factors.now)) result (drop (length stack.old.items) stack.new.items) }
     ensures kept { OnOk result (take (length stack.old.items) stack.new.items ≡ stack.old.items) }
 {
     let base = stack.len();
@@ -299,12 +300,12 @@ fn product(
 /// A transposed value.
 #[cycle(expression)]
 #[tactic(auto, unfolding(algebra_meaning::specs::Expression::transposed_part), using(crate::proofs::Parts::room))]
-fn transposed(
+fn transposed<H: HostMeaning>(
     value: &TypedExpr,
-    scope: &Words<'_>,
+    scope: &Words<'_, H>,
     stack: &mut Vec<u64>,
 ) -> Result<Operand, Stopped<TrapKind>>
-    ensures value { spec.Leaves (meaning.transposed_part (meaning.part_of scope.now value.now)) result (drop (length stack.old.items) stack.new.items) }
+    ensures value { spec.Leaves (meaning.transposed_part (meaning.part_of (meaning.hosted H.answer scope.now) value.now)) result (drop (length stack.old.items) stack.new.items) }
     ensures kept { OnOk result (take (length stack.old.items) stack.new.items ≡ stack.old.items) }
 {
     let base = stack.len();
@@ -316,13 +317,13 @@ fn transposed(
 /// A value at another scale.
 #[cycle(expression)]
 #[tactic(auto, unfolding(algebra_meaning::specs::Expression::rescaled_part), using(crate::proofs::Parts::room))]
-fn rescaled(
+fn rescaled<H: HostMeaning>(
     value: &TypedExpr,
     value_type: NodeType,
-    scope: &Words<'_>,
+    scope: &Words<'_, H>,
     stack: &mut Vec<u64>,
 ) -> Result<Operand, Stopped<TrapKind>>
-    ensures value { spec.Leaves (meaning.rescaled_part (scale_of value_type) (meaning.part_of scope.now value.now)) result (drop (length stack.old.items) stack.new.items) }
+    ensures value { spec.Leaves (meaning.rescaled_part (scale_of value_type) (meaning.part_of (meaning.hosted H.answer scope.now) value.now)) result (drop (length stack.old.items) stack.new.items) }
     ensures kept { OnOk result (take (length stack.old.items) stack.new.items ≡ stack.old.items) }
 {
     let base = stack.len();
@@ -335,13 +336,13 @@ fn rescaled(
 /// A square root.
 #[cycle(expression)]
 #[tactic(auto, using(crate::proofs::Forms::root_is, crate::proofs::Forms::root_none, crate::proofs::Forms::root_stopped))]
-fn root(
+fn root<H: HostMeaning>(
     value: &TypedExpr,
     value_type: NodeType,
-    scope: &Words<'_>,
+    scope: &Words<'_, H>,
     stack: &mut Vec<u64>,
 ) -> Result<Operand, Stopped<TrapKind>>
-    ensures value { spec.Leaves (meaning.root (scale_of value_type) (meaning.part_of scope.now value.now)) result (drop (length stack.old.items) stack.new.items) }
+    ensures value { spec.Leaves (meaning.root (scale_of value_type) (meaning.part_of (meaning.hosted H.answer scope.now) value.now)) result (drop (length stack.old.items) stack.new.items) }
     ensures kept { OnOk result (take (length stack.old.items) stack.new.items ≡ stack.old.items) }
 {
     let from = scale_of(value.node.value_type);
@@ -353,15 +354,15 @@ fn root(
 /// The scalar product of a value, which stands from an index on, and another one.
 #[cycle(expression)]
 #[tactic(auto, unfolding(word_stacks::specs::Steps::dot_with), using(crate::proofs::Parts::room, crate::proofs::Parts::below_kept, crate::proofs::Parts::range_before))]
-fn scalar_product(
+fn scalar_product<H: HostMeaning>(
     right: &TypedExpr,
     left: Operand,
     base: usize,
-    scope: &Words<'_>,
+    scope: &Words<'_, H>,
     stack: &mut Vec<u64>,
 ) -> Result<Operand, Stopped<TrapKind>>
     requires { base ≤ vec_len stack.old }
-    ensures value { spec.Leaves (steps.dot_with (spec.value_of left (drop base stack.old.items)) (meaning.meaning scope.now right.now)) result (drop base stack.new.items) }
+    ensures value { spec.Leaves (steps.dot_with (spec.value_of left (drop base stack.old.items)) (meaning.meaning (meaning.hosted H.answer scope.now) right.now)) result (drop base stack.new.items) }
     ensures kept { OnOk result (take base stack.new.items ≡ take base stack.old.items) }
 {
     let middle = stack.len();
@@ -373,12 +374,12 @@ fn scalar_product(
 /// An expression's words, appended to the stack, and its size; or its first trap. After a trap, and out of memory, some
 /// words of its parts may stand there in their place.
 #[tactic(auto, using(crate::proofs::Parts::room))]
-pub fn evaluate(
+pub fn evaluate<H: HostMeaning>(
     e: &TypedExpr,
-    scope: &Words<'_>,
+    scope: &Words<'_, H>,
     stack: &mut Vec<u64>,
 ) -> Result<Size, Stopped<TrapKind>>
-    ensures value { spec.Appends (meaning.meaning scope.now e.now) result (drop (length stack.old.items) stack.new.items) }
+    ensures value { spec.Appends (meaning.meaning (meaning.hosted H.answer scope.now) e.now) result (drop (length stack.old.items) stack.new.items) }
     ensures kept { OnOk result (take (length stack.old.items) stack.new.items ≡ stack.old.items) }
 {
     let base = stack.len();

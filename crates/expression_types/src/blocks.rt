@@ -9,13 +9,13 @@ use type_rules::{NodeType, TypeKind, block_rule};
 use typed_tree::{Level, TypedExpr, TypedRow};
 use vocabulary::{L, NoMemory};
 
-/// The types of entries.
-fn types_of(alloc: Global, entries: &[TypedExpr]) -> Result<L<NodeType>, NoMemory>
-    ensures { IfOk result (λ types. types ≡ map spec.type_of entries.now) }
+/// The types of expressions.
+pub fn types_of(alloc: Global, expressions: &[TypedExpr]) -> Result<L<NodeType>, NoMemory>
+    ensures { IfOk result (λ types. types ≡ map spec.type_of expressions.now) }
 {
     let mut types = L::empty(alloc);
-    for entry in entries {
-        types.push(entry.node.value_type)?;
+    for part in expressions {
+        types.push(part.node.value_type)?;
     }
     Ok(types)
 }

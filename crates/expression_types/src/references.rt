@@ -1,22 +1,28 @@
 //! What names stand for where a value is asked, and the types of references.
 
-ghost use Rattle.std.specs.Prelude.{◌≡◌, ◌++◌, Ok, Err, IfOk, if◌then◌else◌};
+ghost use Rattle.std.specs.Prelude.{◌≡◌, ◌++◌, map, Ok, Err, IfOk, if◌then◌else◌};
 ghost use Rattle.type_rules.specs.declared.types.TypeKind.TheVariants.{Shape};
+ghost use Rattle.type_rules.specs.Rules as rules;
 ghost use Rattle.type_rules.specs.Rules.{is_empty};
 ghost use Rattle.type_rules.specs.declared.types.NodeType.TheVariants as type;
 ghost use Rattle.type_rules.specs.declared.types.BlockShape.TheVariants as block;
+ghost use Rattle.typed_tree.specs.declared.expression.Referent.TheVariants as referent;
 ghost use Rattle.typed_tree.specs.Expressions as spec;
 ghost use Rattle.typed_tree.specs.Steps.{Walks};
 ghost use Rattle.expression_types.specs.Parts as parts;
 
+use crate::blocks::types_of;
 use crate::nodes::{at_line, node};
 use crate::ranges::ranges_of;
 use sim_syntax::Name;
 use sqlite_items::Items;
 use std::alloc::Global;
-use type_rules::{BlockShape, IndexRange, NodeType, TypeKind, has_unknown, part_rule, rank_rule};
+use type_rules::{
+    BlockShape, IndexRange, NodeType, TypeKind, call_rule, has_unknown, part_rule, rank_rule,
+};
 use typed_tree::{
-    CheckFault, Environment, Level, Meaning, Referent, TypedExpr, TypedForm, find_field, over_set,
+    CheckFault, Environment, HostArguments, HostSignature, Level, Meaning, Referent, TypedExpr,
+    TypedForm, find_field, over_set,
 };
 use vocabulary::NoMemory;
 
@@ -235,6 +241,84 @@ pub struct Written<'a> {
     pub rank: Option<u32>,
 }
 
+/// The host function for which a name stands.
+fn host_in(meaning: Option<Meaning>) -> Option<HostSignature>
+    ensures { result ≡ spec.host_in meaning }
+{
+    match meaning {
+        Some(Meaning::Host(host)) => Some(host),
+        _ => None,
+    }
+}
+
+/// The host function that a reference calls, where it names no field.
+fn host_named(
+    environment: &Environment<'_>,
+    name: &Name,
+    field: &Option<Name>,
+    field_args: &[TypedExpr],
+) -> Option<HostSignature>
+    ensures { result ≡ spec.host_named environment.now name.now field.now field_args.now }
+{
+    match (field, field_args) {
+        (None, []) => host_in(environment.names.find(name.as_str())),
+        _ => None,
+    }
+}
+
+/// A call of a host function, by the types of its arguments.
+fn host_rule(host: HostSignature, args: &[NodeType]) -> Found
+    ensures { result ≡ spec.found (referent.Host host.number) (rules.call_rule (spec.scales_of host.arguments) host.scale args.now) }
+{
+    let rule = match host.arguments {
+        HostArguments::One(scale) => call_rule(&[scale], host.scale, args),
+        HostArguments::Two(first, second) => call_rule(&[first, second], host.scale, args),
+    };
+    found(Referent::Host(host.number), rule)
+}
+
+/// What a name with typed indices stands for, or a field of it.
+fn indexed_rule(
+    alloc: Global,
+    environment: &Environment<'_>,
+    written: Written<'_>,
+    args: &[TypedExpr],
+    field_args: &[TypedExpr],
+) -> Result<Found, NoMemory>
+    ensures { IfOk result (λ found. found ≡ spec.name_rule environment.now written.entry.name.now (map spec.range_of args.now) written.entry.field.now (map spec.range_of field_args.now)) }
+{
+    let places = ranges_of(alloc, args)?;
+    let indices = ranges_of(alloc, field_args)?;
+    name_rule(
+        environment,
+        written.name,
+        places.items(),
+        written.field,
+        indices.items(),
+    )
+}
+
+/// What a name with typed arguments stands for: a host function is called, any other name has a value.
+#[tactic(auto, unfolding(typed_tree::specs::Expressions::called_or_named))]
+fn called_or_named(
+    alloc: Global,
+    environment: &Environment<'_>,
+    host: Option<HostSignature>,
+    written: Written<'_>,
+    args: &[TypedExpr],
+    field_args: &[TypedExpr],
+) -> Result<Found, NoMemory>
+    ensures { IfOk result (λ found. found ≡ spec.called_or_named environment.now host written.entry.name.now args.now written.entry.field.now field_args.now) }
+{
+    match host {
+        Some(host) => {
+            let types = types_of(alloc, args)?;
+            Ok(host_rule(host, types.items()))
+        }
+        None => indexed_rule(alloc, environment, written, args, field_args),
+    }
+}
+
 /// What a reference with typed arguments stands for.
 fn reference_rule(
     alloc: Global,
@@ -245,15 +329,8 @@ fn reference_rule(
 ) -> Result<Found, NoMemory>
     ensures { IfOk result (λ found. found ≡ spec.reference_rule environment.now written.entry.name.now args.now written.entry.field.now field_args.now written.entry.rank) }
 {
-    let places = ranges_of(alloc, args)?;
-    let indices = ranges_of(alloc, field_args)?;
-    let found = name_rule(
-        environment,
-        written.name,
-        places.items(),
-        written.field,
-        indices.items(),
-    )?;
+    let host = host_named(environment, written.name, written.field, field_args);
+    let found = called_or_named(alloc, environment, host, written, args, field_args)?;
     Ok(ranked(written.rank, found))
 }
 

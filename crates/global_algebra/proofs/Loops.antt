@@ -3,7 +3,6 @@ use Rattle.std.proofs.Common.{◌≡◌, ℕ, suc, zero, ◌+◌, ◌-◌, ◌<�
 use Rattle.vocabulary.specs.Answers.{◌>>=◌}
 use Rattle.ring_words.specs.Word.{add, is_less}
 use Rattle.typed_tree.specs.declared.condition.TypedCond.{TypedCond}
-use Rattle.typed_tree.specs.declared.program.TypedProgram.{TypedProgram}
 use Rattle.value_algebra.specs.Value.{number}
 use Rattle.algebra_meaning.specs.declared.state.State.{State}
 use Rattle.algebra_meaning.specs.declared.stopped.Stop.{Stop}
@@ -11,6 +10,7 @@ use Rattle.algebra_meaning.specs.declared.stopped.Stop.TheVariants.{Spent}
 use Rattle.algebra_meaning.specs.declared.stopped.Stopped.{Stopped}
 use Rattle.algebra_meaning.specs.declared.stopped.Stopped.TheVariants.{By}
 use Rattle.algebra_meaning.specs.Element.{with_local}
+use Rattle.algebra_meaning.specs.Linked.{LinkedProgram}
 use Rattle.algebra_meaning.specs.Run.{Runs, count_up_to, test, turn, while_held, while_up_to, with_locals}
 use Rattle.global_algebra.specs.Turns.{counts}
 
@@ -41,7 +41,7 @@ while_is bound counter condition body state known tested below is so_far =
     ∙ ap (After (while_next (bound - (counter + 1)) condition body state)) is)
     ∙ so_far
 
-pub while_begun : (program : TypedProgram) (line : ℕ) (cond : TypedCond) (body : List Runs) (state : State)
+pub while_begun : (program : LinkedProgram) (line : ℕ) (cond : TypedCond) (body : List Runs) (state : State)
     → while_up_to (suc state.turns - 0) (test program line cond) body state ≡ while_held program line cond body state
 unfolding while_held
 while_begun program line cond body state = ap (λ n. while_up_to n (test program line cond) body state) (all_left (suc state.turns))

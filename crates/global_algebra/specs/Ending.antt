@@ -1,9 +1,9 @@
 -- How a run ends.
 use Rattle.std.specs.Prelude.{ℕ, nat_lt, List, Result, Ok, Err, if◌then◌else◌}
 use Rattle.hypergraph.specs.SetValue.{SetValue}
-use Rattle.typed_tree.specs.declared.program.TypedProgram.{TypedProgram}
 use Rattle.dense_sizes.specs.DenseWords.{dense_words}
 use Rattle.dense_sizes.specs.declared.limit.TheConstants.{MOST_DENSE_WORDS}
+use Rattle.algebra_meaning.specs.Linked.{LinkedProgram}
 use Rattle.algebra_meaning.specs.Run.{run}
 use Rattle.algebra_meaning.specs.declared.stopped.Stop.{Stop}
 use Rattle.algebra_meaning.specs.declared.stopped.Stop.TheVariants as stop
@@ -19,5 +19,5 @@ ending_of (Err (stop.Trap line element kind)) = Trap line element kind
 ending_of (Err stop.Spent) = Spent
 
 -- the ending of a run whose dense matrices have few enough words
-unfoldable pub plain_answer : TypedProgram → List SetValue → ℕ → Result Ending PlainFault
-plain_answer program sets turns = if nat_lt MOST_DENSE_WORDS (dense_words program sets) then Err OverDense else Ok (ending_of (run program sets turns))
+unfoldable pub plain_answer : LinkedProgram → List SetValue → ℕ → Result Ending PlainFault
+plain_answer program sets turns = if nat_lt MOST_DENSE_WORDS (dense_words program.typed sets) then Err OverDense else Ok (ending_of (run program sets turns))

@@ -7,13 +7,15 @@ ghost use Rattle.hypergraph.specs.Sets.{set_at};
 ghost use Rattle.value_algebra.specs.Fields as fields;
 ghost use Rattle.algebra_meaning.specs.Element as element;
 ghost use Rattle.algebra_meaning.specs.Expression.{set_fields};
+ghost use Rattle.algebra_meaning.specs.Linked.{linked};
 ghost use Rattle.algebra_meaning.specs.Run as spec;
 
-use algebra_meaning::State;
+use algebra_meaning::{LinkedProgram, State};
+use host_table::HostMeaning;
 use hypergraph::Sets;
 use std::alloc::Global;
-use typed_tree::{TypedProgram, TypedTarget};
-use value_algebra::{Value, element_in, fields_of, with_field};
+use typed_tree::TypedTarget;
+use value_algebra::{Value, with_field};
 use vocabulary::{L, NoMemory};
 
 /// Values with another in the place of one of them; where there is none, they stay.
@@ -39,9 +41,9 @@ pub(crate) fn with_local(values: L<Value>, number: u32, value: Value) -> Result<
 }
 
 /// The sets with another value in a field of one of them.
-fn with_field_of(
+fn with_field_of<H: HostMeaning>(
     alloc: Global,
-    program: &TypedProgram,
+    program: &LinkedProgram<'_, H>,
     mut sets: Sets,
     set: u32,
     field: u32,
@@ -49,22 +51,21 @@ fn with_field_of(
 ) -> Result<Sets, NoMemory>
     ensures { IfOk result (λ after. after ≡ slice_set sets set (fields.with_field (set_fields program.now set) (set_at sets set) field value.words)) }
 {
-    let element = element_in(program.sets.items(), set);
-    let fields = fields_of(program.elements.items(), element);
+    let fields = program.set_fields(set);
     with_field(alloc, fields, &mut sets, set, field, value.words)?;
     Ok(sets)
 }
 
 /// A state in which a whole target has a value.
 #[tactic(auto, unfolding(algebra_meaning::specs::Run::assigned))]
-fn assigned(
+fn assigned<H: HostMeaning>(
     alloc: Global,
-    program: &TypedProgram,
+    program: &LinkedProgram<'_, H>,
     state: State,
     target: TypedTarget,
     value: Value,
 ) -> Result<State, NoMemory>
-    ensures { IfOk result (λ after. after ≡ spec.assigned program.now state (target, value)) }
+    ensures { IfOk result (λ after. after ≡ spec.assigned (linked H.answer program.now) state (target, value)) }
 {
     match target {
         TypedTarget::Variable(variable) => Ok(State {
@@ -87,14 +88,14 @@ fn assigned(
 
 /// A state in which targets have values, assigned from left to right.
 #[tactic(auto, using(crate::proofs::Targets::target_assigned, crate::proofs::Targets::no_target, crate::proofs::Targets::no_value_left))]
-pub(crate) fn assign_all(
+pub(crate) fn assign_all<H: HostMeaning>(
     alloc: Global,
-    program: &TypedProgram,
+    program: &LinkedProgram<'_, H>,
     start: State,
     targets: &[TypedTarget],
     values: L<Value>,
 ) -> Result<State, NoMemory>
-    ensures { IfOk result (λ after. after ≡ spec.all_assigned program.now start (zip targets.now values)) }
+    ensures { IfOk result (λ after. after ≡ spec.all_assigned (linked H.answer program.now) start (zip targets.now values)) }
 {
     let mut state = start;
     let mut number = 0;
@@ -109,14 +110,14 @@ pub(crate) fn assign_all(
 }
 
 /// A state in which variables have values, assigned from left to right.
-pub(crate) fn assign_variables(
+pub(crate) fn assign_variables<H: HostMeaning>(
     alloc: Global,
-    program: &TypedProgram,
+    program: &LinkedProgram<'_, H>,
     state: State,
     variables: &[u32],
     values: L<Value>,
 ) -> Result<State, NoMemory>
-    ensures { IfOk result (λ after. after ≡ spec.all_assigned program.now state (zip (map target.Variable variables.now) values)) }
+    ensures { IfOk result (λ after. after ≡ spec.all_assigned (linked H.answer program.now) state (zip (map target.Variable variables.now) values)) }
 {
     let targets = targets_of(alloc, variables)?;
     assign_all(alloc, program, state, &targets, values)

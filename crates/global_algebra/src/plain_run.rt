@@ -1,6 +1,7 @@
 //! The plain run, with which every faster one is compared.
 
 ghost use Rattle.vocabulary.specs.Answers.{Answers};
+ghost use Rattle.algebra_meaning.specs.Linked.{linked};
 ghost use Rattle.run_laws.specs.Laws.{AnswersOnly, IsAnswered};
 ghost use Rattle.run_sizes.specs.Laws.{AreMeantInRuns, FitInRuns};
 ghost use Rattle.global_algebra.specs.Ending.{plain_answer};
@@ -9,8 +10,10 @@ ghost use Rattle.global_algebra.specs.declared.plain_run.PlainFault.TheVariants.
 use crate::ending::Ending;
 use crate::maps::PlainMaps;
 use crate::statements::run;
+use algebra_meaning::LinkedProgram;
 use block_types::Typed;
 use dense_sizes::{MOST_DENSE_WORDS, dense_words};
+use host_table::{HostMeaning, HostTable};
 use hypergraph::Sets;
 use run_laws::run_law;
 use run_sizes::run_size_law;
@@ -27,13 +30,19 @@ pub enum PlainFault {
     Memory,
 }
 
-/// How a program ends over sets, each matrix dense, the elements in their order, with so many turns: what the run is by
-/// its definition, which is the one outcome that the run has as a relation by cases. Wherever a run comes, what names stand
-/// for has the sizes of their types, and index expressions mean their sums. `OverDense` exactly where its
-/// dense matrices have too many words, unless memory runs out before.
+/// How a program, linked to host functions, ends over sets, each matrix dense, the elements in their order, with so many
+/// turns: what the run is by its definition, which is the one outcome that the run has as a relation by cases. Wherever a
+/// run comes, what names stand for has the sizes of their types, and index expressions mean their sums. `OverDense` exactly
+/// where its dense matrices have too many words, unless memory runs out before.
 #[tactic(auto, unfolding(crate::specs::Ending::plain_answer))]
-pub fn plain(alloc: Global, typed: &Typed, sets: Sets, turns: u32) -> Result<Ending, PlainFault>
-    ensures answered { Answers Memory (plain_answer typed.now sets turns) result }
+pub fn plain<H: HostMeaning>(
+    alloc: Global,
+    typed: &Typed,
+    hosts: &HostTable<H>,
+    sets: Sets,
+    turns: u32,
+) -> Result<Ending, PlainFault>
+    ensures answered { Answers Memory (plain_answer (linked H.answer typed.now) sets turns) result }
     ensures holds { IsAnswered }
     ensures only { AnswersOnly }
     ensures fit { FitInRuns }
@@ -41,11 +50,14 @@ pub fn plain(alloc: Global, typed: &Typed, sets: Sets, turns: u32) -> Result<End
 {
     run_law();
     run_size_law();
-    let program = typed.typed_program();
-    if dense_words(program, &sets) > u128::from(MOST_DENSE_WORDS) {
+    if dense_words(typed.typed_program(), &sets) > u128::from(MOST_DENSE_WORDS) {
         return Err(PlainFault::OverDense);
     }
-    match run(alloc, &PlainMaps, program, sets, turns) {
+    let program = LinkedProgram {
+        typed: typed.typed_program(),
+        hosts,
+    };
+    match run(alloc, &PlainMaps, &program, sets, turns) {
         Ok(ending) => Ok(ending),
         Err(_) => Err(PlainFault::Memory),
     }

@@ -5,6 +5,7 @@ ghost use Rattle.typed_tree.specs.declared.main_procedure.TypedTarget.TheVariant
 ghost use Rattle.value_algebra.specs.Value.{number};
 ghost use Rattle.algebra_meaning.specs.Element.{with_local};
 ghost use Rattle.algebra_meaning.specs.Expression.{no_value};
+ghost use Rattle.algebra_meaning.specs.Linked.{linked};
 ghost use Rattle.algebra_meaning.specs.Run as spec;
 ghost use Rattle.algebra_meaning.specs.Means.{Means};
 ghost use Rattle.global_algebra.specs.Ending.{ending_of};
@@ -14,27 +15,28 @@ use crate::assignment::{assign_all, assign_variables, with_local};
 use crate::ending::Ending;
 use crate::maps::Maps;
 use crate::right_sides::{right_values, test, value_in};
-use algebra_meaning::{State, Stop, Stopped};
+use algebra_meaning::{LinkedProgram, State, Stop, Stopped};
+use host_table::HostMeaning;
 use hypergraph::Sets;
 use loop_laws::item_laws;
 use ring_words::{TrapKind, add, less};
 use std::alloc::Global;
-use typed_tree::{MainStmt, TypedCond, TypedExpr, TypedProgram, TypedRight, TypedTarget};
+use typed_tree::{MainStmt, TypedCond, TypedExpr, TypedRight, TypedTarget};
 use value_algebra::Value;
 use vocabulary::{L, NoMemory};
 
 /// New variables get the values of a right side.
 #[tactic(auto, unfolding(algebra_meaning::specs::Run::assignment))]
-fn declare<M: Maps>(
+fn declare<M: Maps, H: HostMeaning>(
     alloc: Global,
     maps: &M,
-    program: &TypedProgram,
+    program: &LinkedProgram<'_, H>,
     line: u32,
     variables: &[u32],
     right: &TypedRight,
     state: State,
 ) -> Result<State, Stopped<Stop>>
-    ensures { Means (spec.assignment program.now line (map target.Variable variables.now) right.now state) result }
+    ensures { Means (spec.assignment (linked H.answer program.now) line (map target.Variable variables.now) right.now state) result }
 {
     let values = right_values(alloc, maps, program, &state, line, right)?;
     let assigned = assign_variables(alloc, program, state, variables, values)?;
@@ -43,16 +45,16 @@ fn declare<M: Maps>(
 
 /// Targets get the values of a right side.
 #[tactic(auto, unfolding(algebra_meaning::specs::Run::assignment))]
-fn assignment<M: Maps>(
+fn assignment<M: Maps, H: HostMeaning>(
     alloc: Global,
     maps: &M,
-    program: &TypedProgram,
+    program: &LinkedProgram<'_, H>,
     line: u32,
     targets: &[TypedTarget],
     right: &TypedRight,
     state: State,
 ) -> Result<State, Stopped<Stop>>
-    ensures { Means (spec.assignment program.now line targets.now right.now state) result }
+    ensures { Means (spec.assignment (linked H.answer program.now) line targets.now right.now state) result }
 {
     let values = right_values(alloc, maps, program, &state, line, right)?;
     let assigned = assign_all(alloc, program, state, targets, values)?;
@@ -61,14 +63,14 @@ fn assignment<M: Maps>(
 
 /// An assertion, which traps where its condition doesn't hold.
 #[tactic(auto, unfolding(algebra_meaning::specs::Run::asserted))]
-fn asserted(
+fn asserted<H: HostMeaning>(
     alloc: Global,
-    program: &TypedProgram,
+    program: &LinkedProgram<'_, H>,
     line: u32,
     cond: &TypedCond,
     state: State,
 ) -> Result<State, Stopped<Stop>>
-    ensures { Means (spec.asserted program.now line cond.now state) result }
+    ensures { Means (spec.asserted (linked H.answer program.now) line cond.now state) result }
 {
     if test(alloc, program, &state, line, cond)? {
         Ok(state)
@@ -84,14 +86,14 @@ fn asserted(
 /// A statement.
 #[cycle(statement)]
 #[tactic(auto, unfolding(algebra_meaning::specs::Run::statement_runs, algebra_meaning::specs::Run::chosen))]
-fn statement<M: Maps>(
+fn statement<M: Maps, H: HostMeaning>(
     statement: &MainStmt,
     alloc: Global,
     maps: &M,
-    program: &TypedProgram,
+    program: &LinkedProgram<'_, H>,
     state: State,
 ) -> Result<State, Stopped<Stop>>
-    ensures { Means (spec.runs_of program.now statement.now state) result }
+    ensures { Means (spec.runs_of (linked H.answer program.now) statement.now state) result }
 {
     match statement {
         MainStmt::Var {
@@ -143,14 +145,14 @@ fn statement<M: Maps>(
 /// Statements, one after the other.
 #[cycle(statement)]
 #[tactic(auto, using(crate::proofs::Order::statement_ran, crate::proofs::Order::statement_stopped, crate::proofs::Order::statements_ended))]
-fn in_order<M: Maps>(
+fn in_order<M: Maps, H: HostMeaning>(
     body: &[MainStmt],
     alloc: Global,
     maps: &M,
-    program: &TypedProgram,
+    program: &LinkedProgram<'_, H>,
     start: State,
 ) -> Result<State, Stopped<Stop>>
-    ensures { Means (spec.in_order (map (spec.runs_of program.now) body.now) start) result }
+    ensures { Means (spec.in_order (map (spec.runs_of (linked H.answer program.now)) body.now) start) result }
 {
     item_laws::<State, MainStmt, Stop>();
     let mut state = start;
@@ -162,14 +164,14 @@ fn in_order<M: Maps>(
 
 /// One turn is spent, and then the body of a loop runs; where none is left, the run is spent.
 #[cycle(statement)]
-fn turn<M: Maps>(
+fn turn<M: Maps, H: HostMeaning>(
     body: &[MainStmt],
     alloc: Global,
     maps: &M,
-    program: &TypedProgram,
+    program: &LinkedProgram<'_, H>,
     state: State,
 ) -> Result<State, Stopped<Stop>>
-    ensures { Means (spec.turn (map (spec.runs_of program.now) body.now) state) result }
+    ensures { Means (spec.turn (map (spec.runs_of (linked H.answer program.now)) body.now) state) result }
 {
     if state.turns == 0 {
         return Err(Stopped::By(Stop::Spent));
@@ -186,16 +188,16 @@ fn turn<M: Maps>(
 /// Turns as long as a condition holds. Each spends one, so that one more than are left bounds them.
 #[cycle(statement)]
 #[tactic(auto, using(crate::proofs::Loops::while_begun, crate::proofs::Loops::while_on, crate::proofs::Loops::while_over, crate::proofs::Loops::while_untested, crate::proofs::Loops::while_stopped, crate::proofs::Loops::while_spent))]
-fn while_held<M: Maps>(
+fn while_held<M: Maps, H: HostMeaning>(
     body: &[MainStmt],
     alloc: Global,
     maps: &M,
-    program: &TypedProgram,
+    program: &LinkedProgram<'_, H>,
     line: u32,
     cond: &TypedCond,
     start: State,
 ) -> Result<State, Stopped<Stop>>
-    ensures { Means (spec.while_held program.now line cond.now (map (spec.runs_of program.now) body.now) start) result }
+    ensures { Means (spec.while_held (linked H.answer program.now) line cond.now (map (spec.runs_of (linked H.answer program.now)) body.now) start) result }
 {
     let most = u64::from(start.turns) + 1;
     let mut state = start;
@@ -210,16 +212,16 @@ fn while_held<M: Maps>(
 
 /// A turn with a value of a loop's variable.
 #[cycle(statement)]
-fn turn_with<M: Maps>(
+fn turn_with<M: Maps, H: HostMeaning>(
     body: &[MainStmt],
     alloc: Global,
     maps: &M,
-    program: &TypedProgram,
+    program: &LinkedProgram<'_, H>,
     local: u32,
     value: u64,
     state: State,
 ) -> Result<State, Stopped<Stop>>
-    ensures { Means (spec.turn (map (spec.runs_of program.now) body.now) (spec.with_locals state (with_local state.locals local (number value)))) result }
+    ensures { Means (spec.turn (map (spec.runs_of (linked H.answer program.now)) body.now) (spec.with_locals state (with_local state.locals local (number value)))) result }
 {
     let value = Value::number(alloc, value)?;
     let begun = State {
@@ -234,17 +236,17 @@ fn turn_with<M: Maps>(
 /// Turns with the values from one up to below another, by their signed readings.
 #[cycle(statement)]
 #[tactic(auto, using(crate::proofs::Loops::count_begun, crate::proofs::Loops::count_on, crate::proofs::Loops::count_over, crate::proofs::Loops::count_stopped, crate::proofs::Loops::count_spent))]
-fn count_up<M: Maps>(
+fn count_up<M: Maps, H: HostMeaning>(
     body: &[MainStmt],
     alloc: Global,
     maps: &M,
-    program: &TypedProgram,
+    program: &LinkedProgram<'_, H>,
     local: u32,
     from: u64,
     to: u64,
     start: State,
 ) -> Result<State, Stopped<Stop>>
-    ensures { Means (turns.counts local from to (map (spec.runs_of program.now) body.now) start) result }
+    ensures { Means (turns.counts local from to (map (spec.runs_of (linked H.answer program.now)) body.now) start) result }
 {
     let most = u64::from(start.turns) + 1;
     let mut state = start;
@@ -262,18 +264,18 @@ fn count_up<M: Maps>(
 /// A loop over numbers, whose bounds are evaluated once.
 #[cycle(statement)]
 #[tactic(auto, unfolding(algebra_meaning::specs::Run::counted, crate::specs::Turns::counts))]
-fn counted<M: Maps>(
+fn counted<M: Maps, H: HostMeaning>(
     body: &[MainStmt],
     alloc: Global,
     maps: &M,
-    program: &TypedProgram,
+    program: &LinkedProgram<'_, H>,
     line: u32,
     local: u32,
     from: &TypedExpr,
     to: &TypedExpr,
     state: State,
 ) -> Result<State, Stopped<Stop>>
-    ensures { Means (spec.counted program.now line local from.now to.now (map (spec.runs_of program.now) body.now) state) result }
+    ensures { Means (spec.counted (linked H.answer program.now) line local from.now to.now (map (spec.runs_of (linked H.answer program.now)) body.now) state) result }
 {
     let from = value_in(alloc, program, &state, line, from)?;
     let to = value_in(alloc, program, &state, line, to)?;
@@ -312,15 +314,16 @@ fn no_values(alloc: Global, count: usize) -> Result<L<Value>, NoMemory>
 }
 
 /// The state before the first statement.
-fn beginning(
+fn beginning<H: HostMeaning>(
     alloc: Global,
-    program: &TypedProgram,
+    program: &LinkedProgram<'_, H>,
     sets: Sets,
     turns: u32,
 ) -> Result<State, NoMemory>
-    ensures { IfOk result (λ state. state ≡ spec.beginning program.now sets turns) }
+    ensures { IfOk result (λ state. state ≡ spec.beginning (linked H.answer program.now) sets turns) }
 {
-    let variables = no_values(alloc, program.variables.items().len())?;
+    let typed = program.typed;
+    let variables = no_values(alloc, typed.variables.items().len())?;
     Ok(State {
         sets,
         variables,
@@ -331,29 +334,30 @@ fn beginning(
 
 /// The sets after a program, or why it stops before its end.
 #[tactic(auto, unfolding(algebra_meaning::specs::Run::run))]
-fn run_to_end<M: Maps>(
+fn run_to_end<M: Maps, H: HostMeaning>(
     alloc: Global,
     maps: &M,
-    program: &TypedProgram,
+    program: &LinkedProgram<'_, H>,
     sets: Sets,
     turns: u32,
 ) -> Result<Sets, Stopped<Stop>>
-    ensures { Means (spec.run program.now sets turns) result }
+    ensures { Means (spec.run (linked H.answer program.now) sets turns) result }
 {
     let start = beginning(alloc, program, sets, turns)?;
-    let end = in_order(program.body.as_slice(), alloc, maps, program, start)?;
+    let typed = program.typed;
+    let end = in_order(typed.body.as_slice(), alloc, maps, program, start)?;
     Ok(end.sets)
 }
 
 /// How a program ends, by a way to compute the results of maps.
-pub fn run<M: Maps>(
+pub fn run<M: Maps, H: HostMeaning>(
     alloc: Global,
     maps: &M,
-    program: &TypedProgram,
+    program: &LinkedProgram<'_, H>,
     sets: Sets,
     turns: u32,
 ) -> Result<Ending, NoMemory>
-    ensures { IfOk result (λ ending. ending ≡ ending_of (spec.run program.now sets turns)) }
+    ensures { IfOk result (λ ending. ending ≡ ending_of (spec.run (linked H.answer program.now) sets turns)) }
 {
     match run_to_end(alloc, maps, program, sets, turns) {
         Ok(sets) => Ok(Ending::Done(sets)),

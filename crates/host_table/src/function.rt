@@ -56,12 +56,4 @@ impl<H: HostMeaning> HostFn<H> {
     {
         self.name.has_bytes(name.as_bytes())
     }
-
-    /// What the function answers of two words.
-    #[inline]
-    pub(crate) fn call(&self, a: u64, b: u64) -> u64
-        ensures { result ≡ H.answer self.now.number a b }
-    {
-        H::run(self.number, a, b)
-    }
 }

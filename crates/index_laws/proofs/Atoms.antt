@@ -1,5 +1,5 @@
 -- Atoms, transposed matrices and scalar products as expressions that have a value wherever they have a type.
-use Rattle.std.proofs.Common.{◌≡◌, ℕ, Bool, true, false, List, [], ◌∷◌, Option, Some, Result, Ok, Err, refl, sym, ap, ◌∙◌, subst}
+use Rattle.std.proofs.Common.{◌≡◌, ℕ, Bool, true, false, List, [], ◌∷◌, Option, None, Some, Result, Ok, Err, refl, sym, ap, ◌∙◌, subst}
 use Rattle.std.specs.Prelude.{not, if◌then◌else◌, nat_lt}
 use Rattle.vocabulary.specs.Answers.{◌>>=◌}
 use Rattle.vocabulary.specs.declared.limits.TheConstants.{MOST_FIELD_SCALE}
@@ -7,14 +7,18 @@ use Rattle.sim_syntax.specs.declared.expression.Expr as tree
 use Rattle.sim_syntax.specs.declared.expression.Expr.TheVariants as expr
 use Rattle.sim_syntax.specs.declared.statement.IxAtom.{IxAtom}
 use Rattle.sim_syntax.specs.declared.statement.IxAtom.TheVariants as atom
-use Rattle.type_rules.specs.Rules.{literal_rule, rank_rule, has_rank, transposed_rule, dot_rule, is_missing}
+use Rattle.type_rules.specs.Rules.{call_rule, literal_rule, rank_rule, has_rank, transposed_rule, dot_rule, is_missing}
 use Rattle.type_rules.specs.declared.types.BlockShape.TheVariants as block
 use Rattle.type_rules.specs.declared.types.NodeType.{NodeType}
 use Rattle.type_rules.specs.declared.types.NodeType.TheVariants as type
 use Rattle.type_rules.specs.declared.types.TypeKind.{TypeKind}
 use Rattle.type_rules.specs.declared.types.TypeKind.TheVariants as kind
 use Rattle.typed_tree.specs.declared.environment.Environment.{Environment}
+use Rattle.typed_tree.specs.declared.names.HostArguments.{HostArguments}
+use Rattle.typed_tree.specs.declared.names.HostArguments.TheVariants as arguments
+use Rattle.typed_tree.specs.declared.names.HostSignature.{HostSignature}
 use Rattle.typed_tree.specs.declared.expression.Referent.{Referent}
+use Rattle.typed_tree.specs.declared.expression.Referent.TheVariants as referent
 use Rattle.typed_tree.specs.declared.expression.TypedExpr.{TypedExpr}
 use Rattle.typed_tree.specs.declared.expression.TypedForm.{TypedForm}
 use Rattle.typed_tree.specs.declared.expression.TypedForm.TheVariants as form
@@ -22,7 +26,7 @@ use Rattle.typed_tree.specs.Literals.{decimals_of, literal_word}
 use Rattle.typed_tree.specs.Names.{Name}
 use Rattle.typed_tree.specs.Steps.{Step, at_line}
 use Rattle.typed_tree.specs.Expressions as typed
-use Rattle.typed_tree.specs.Expressions.{expression, found, name_rule, node, numbered, ranked, reference_rule, type_of, unary, binary, word_or_zero}
+use Rattle.typed_tree.specs.Expressions.{called_or_named, expression, found, host_named, name_rule, node, numbered, ranked, reference_rule, scales_of, type_of, unary, binary, word_or_zero}
 use Rattle.value_algebra.specs.declared.value.Value.{Value}
 use Rattle.value_algebra.specs.Value.{number, transposed, dot}
 use Rattle.value_laws.specs.Laws.{EntryLaws}
@@ -67,6 +71,18 @@ ranked_type t rank u is = by_test (has_rank t rank) is
     by_test : (b : Bool) → (if not b then Err kind.Shape else Ok t) ≡ Ok u → (b ≡ true) × (t ≡ u)
     by_test true answers = (refl, same_Ok t u answers)
     by_test false answers = absurd (cc)
+
+-- a host function is called with arguments, and so a name without any isn't one
+no_call : (number scale : ℕ) (given : HostArguments) (w : Referent × NodeType) → found (referent.Host number) (call_rule (scales_of given) scale []) ≡ Ok w → ⊥
+unfolding call_rule
+no_call number scale (arguments.One first) w is = cc
+no_call number scale (arguments.Two first second) w is = cc
+
+named_alone : (env : Environment) (host : Option HostSignature) (name : Name) (field : Option Name) (w : Referent × NodeType)
+    → called_or_named env host name [] field [] ≡ Ok w → name_rule env name [] field [] ≡ Ok w
+unfolding called_or_named
+named_alone env None name field w is = is
+named_alone env (Some host) name field w is = absurd (no_call host.number host.scale host.arguments w is)
 
 pub reference_means : (scope : Scope) (what : Referent) → meant.reference scope what [] [] ≡ Ok (referred scope what [] [])
 unfolding meant.reference
@@ -118,7 +134,9 @@ module _ (typing : TypingForms) (meanings : MeaningForms) (entries : EntryLaws) 
       let all : (at_line line rule >>= λ what. Ok (numbered next line what.1 (form.Ref what.0 [] []))) ≡ Ok done =
       sym (reference_unfolds env line name field (Some rank) next) ∙ ap (λ s. s next) (sym (typing.reference_is env line name [] field [] (Some rank))) ∙ is in
       let what = and_then (at_line line rule) (λ what. Ok (numbered next line what.1 (form.Ref what.0 [] []))) done all in
-      let seen = and_then (name_rule env name [] field []) (ranked (Some rank)) what.0 (at_line_Ok line rule what.0 what.1) in
+      let called = and_then (called_or_named env (host_named env name field []) name [] field []) (ranked (Some rank)) what.0 (at_line_Ok line rule what.0 what.1) in
+      let seen : (w : Referent × NodeType) × (name_rule env name [] field [] ≡ Ok w) × (ranked (Some rank) w ≡ Ok what.0) =
+      (called.0, named_alone env (host_named env name field []) name field called.0 called.1, called.2) in
       let one = and_then (rank_rule seen.0.1 rank) (λ t. Ok (seen.0.0, t)) what.0 seen.2 in
       let same = ranked_type seen.0.1 rank one.0 one.1 in
       let stands : seen.0 ≡ what.0 = ap (λ t. (seen.0.0, t)) same.1 ∙ same_Ok (seen.0.0, one.0) what.0 one.2 in

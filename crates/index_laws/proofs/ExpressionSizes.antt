@@ -8,11 +8,14 @@ use Rattle.sim_syntax.specs.declared.expression.SumTerm.{SumTerm}
 use Rattle.sim_syntax.specs.declared.expression.ProductFactor.{ProductFactor}
 use Rattle.type_rules.specs.Types.{scale_of}
 use Rattle.type_rules.specs.declared.types.IndexRange.{IndexRange}
+use Rattle.type_rules.specs.declared.types.BlockShape.TheVariants.{Number}
 use Rattle.type_rules.specs.declared.types.NodeType.{NodeType}
+use Rattle.type_rules.specs.declared.types.NodeType.TheVariants.{Local}
 use Rattle.typed_tree.specs.declared.environment.Environment.{Environment}
 use Rattle.typed_tree.specs.declared.environment.Level.TheVariants.{Function, Main}
 use Rattle.typed_tree.specs.declared.expression.Node.{Node}
 use Rattle.typed_tree.specs.declared.expression.Referent.{Referent}
+use Rattle.typed_tree.specs.declared.expression.Referent.TheVariants as referent
 use Rattle.typed_tree.specs.declared.expression.TypedExpr.{TypedExpr}
 use Rattle.typed_tree.specs.declared.expression.TypedTerm.{TypedTerm}
 use Rattle.typed_tree.specs.declared.expression.TypedFactor.{TypedFactor}
@@ -27,7 +30,7 @@ use Rattle.value_algebra.specs.Value.{number, word_of, times, transposed, dot}
 use Rattle.value_algebra.specs.Scales as scales
 use Rattle.value_laws.specs.Laws.{EntryLaws}
 use Rattle.algebra_meaning.specs.Expression as meant
-use Rattle.algebra_meaning.specs.Expression.{Scope, added, chain, divided, found, last_value, meaning, multiplied, or_trap, quotient, referred, rescaled_part, root, scalar_product, total, transposed_part}
+use Rattle.algebra_meaning.specs.Expression.{Part, Scope, added, all_meant, chain, divided, first_word, found, last_value, meaning, multiplied, or_trap, quotient, referred, rescaled_part, root, scalar_product, second_word, total, transposed_part}
 use Rattle.expression_forms.specs.Meanings.{MeaningForms, factor_operand, part_is, term_operand}
 use Rattle.index_laws.specs.Fits.{Fits, NamesFit}
 use Rattle.index_laws.specs.Sizes.{IsMain, AreSized}
@@ -110,6 +113,14 @@ dot_of scope l r value is =
     let a = and_then (meaning scope l) (λ a. meaning scope r >>= λ b. Ok (dot a b)) value is in
     let b = and_then (meaning scope r) (λ b. Ok (dot a.0 b)) value a.2 in
     (a.0, b.0, same_Ok (dot a.0 b.0) value b.2)
+
+-- what a host function answers is a number
+call_of : (scope : Scope) (host : ℕ) (args : List Part) (value : Value) → meant.reference scope (referent.Host host) args [] ≡ Ok value → (word : ℕ) × (number word ≡ value)
+unfolding meant.reference
+call_of scope host args value is =
+    let a = and_then (all_meant args) (λ a. Ok (referred scope (referent.Host host) a [])) value is in
+    let word = scope.program.answer host (first_word a.0) (second_word a.0) in
+    (word, same_Ok (number word) value a.2)
 
 -- ---- sums and products from left to right
 
@@ -197,6 +208,11 @@ module _ (meanings : MeaningForms) (entries : EntryLaws) (env : Environment) (sc
         (sizes.number_fits entries scope.sets (decimals_of digits) word) (literal_type (decimals_of digits) (Some word) type rule)
     sized e t from to value (IsTyping.reference line name args field field_args rank as_typed fs_typed what view type from' middle to' first second stands ranked) is =
         reference_sized name field rank as_typed fs_typed what view type value stands ranked (sym (meanings.reference_is scope (node_at to' line type) what as_typed fs_typed) ∙ is)
+    sized e t from to value (IsTyping.call line name args rank typed_args host type from' to' typed means types ranked) is =
+        let word = call_of scope host.number (map (part_is scope) typed_args) value
+        (sym (meanings.reference_is scope (node_at to' line type) (referent.Host host.number) typed_args []) ∙ is) in
+        subst (λ u. Fits scope.sets u value) (ranked_view rank (Local Number host.scale) type ranked)
+        (subst (Fits scope.sets (Local Number host.scale)) word.1 (sizes.number_fits entries scope.sets host.scale word.0))
     sized e t from to value (IsTyping.block line rows rs type from' to' typed function rule) is = absurd (no_function (sym function ∙ main.level))
     sized e t from to value (IsTyping.sum line terms ts last from' to' typed) is =
         let end = sum_value scope ts value (sym (meanings.sum_is scope last ts) ∙ is) in

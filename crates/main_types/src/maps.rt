@@ -2,11 +2,10 @@
 
 ghost use Rattle.std.specs.Prelude.{◌≡◌, IfOk, map};
 ghost use Rattle.std.specs.List.{list_all};
-ghost use Rattle.type_rules.specs.Types as spec_types;
 ghost use Rattle.typed_tree.specs.MainProcedure as spec;
 
 use std::alloc::Global;
-use type_rules::{NodeType, TypeKind, is_scalar, scale_of};
+use type_rules::{NodeType, TypeKind, are_numbers, have_scales};
 use typed_tree::{Declarations, Endpoints, ResultSide, SetShape, TypedFunction, TypedResult};
 use vocabulary::{L, NoMemory};
 
@@ -78,30 +77,6 @@ fn may_be_mapped(
         && are_results_of(number, set.over, function.results.items())
 }
 
-/// Whether each argument is a scalar.
-fn are_scalars(args: &[NodeType]) -> bool
-    ensures { result ≡ list_all spec_types.is_scalar args.now }
-{
-    args.iter().all(|arg| is_scalar(*arg))
-}
-
-/// Whether the arguments are scalars, as many as the function takes.
-fn are_arguments(function: &TypedFunction, args: &[NodeType]) -> bool
-    ensures { result ≡ spec.are_arguments function.now args.now }
-{
-    args.len() == function.arguments.items().len() && are_scalars(args)
-}
-
-/// Whether the arguments have the scales of the parameters.
-fn have_scales(scales: &[u32], args: &[NodeType]) -> bool
-    ensures { result ≡ spec.have_scales scales.now args.now }
-{
-    scales
-        .iter()
-        .zip(args)
-        .all(|(scale, arg)| *scale == scale_of(*arg))
-}
-
 /// The kind of a map's fault, if it has one.
 #[tactic(auto, unfolding(typed_tree::specs::MainProcedure::map_rule))]
 pub fn map_rule(
@@ -113,7 +88,7 @@ pub fn map_rule(
 ) -> Option<TypeKind>
     ensures { result ≡ spec.map_rule declarations.now function.now number set args.now }
 {
-    if !are_arguments(function, args) {
+    if !are_numbers(function.arguments.items(), args) {
         Some(TypeKind::Shape)
     } else if !may_be_mapped(declarations, function, number, set) {
         Some(TypeKind::Set)

@@ -3,16 +3,18 @@
 ghost use Rattle.std.specs.Prelude.{◌≡◌, ◌++◌, OnOk};
 ghost use Rattle.algebra_meaning.specs.Assembled as spec;
 ghost use Rattle.algebra_meaning.specs.Element as element_spec;
+ghost use Rattle.algebra_meaning.specs.Linked.{linked};
 ghost use Rattle.algebra_meaning.specs.Means.{Means};
 
 use crate::assembly::all_assembled;
 use crate::call::Call;
 use crate::statements::contributions;
-use algebra_meaning::{Contribution, ElementContext, Stopped, Trapped};
+use algebra_meaning::{Contribution, ElementContext, LinkedProgram, Stopped, Trapped};
+use host_table::HostMeaning;
 use hypergraph::Sets;
 use loop_laws::number_laws;
 use std::alloc::Global;
-use typed_tree::{TypedFunction, TypedProgram};
+use typed_tree::TypedFunction;
 use value_algebra::{Value, count};
 use vocabulary::{L, NoMemory};
 
@@ -29,13 +31,13 @@ pub fn place_of(function: &TypedFunction, set: u32, element: u32) -> ElementCont
 }
 
 /// What a function contributes at an element, or its trap there.
-fn contributions_at(
+fn contributions_at<H: HostMeaning>(
     alloc: Global,
-    call: &Call<'_>,
+    call: &Call<'_, H>,
     function: &TypedFunction,
     args: &[Value],
 ) -> Result<L<Contribution>, Stopped<Trapped>>
-    ensures { Means (spec.of_element call.now.place.element (element_spec.contributions call.now function.now args.now)) result }
+    ensures { Means (spec.of_element call.now.place.element (element_spec.contributions (element_spec.call_in H.answer call.now) function.now args.now)) result }
 {
     match contributions(alloc, call, function, args) {
         Ok(contributed) => Ok(contributed),
@@ -48,16 +50,16 @@ fn contributions_at(
 }
 
 /// What a function that is mapped to a set contributes at one of its elements, or its trap there.
-fn element_contributions(
+fn element_contributions<H: HostMeaning>(
     alloc: Global,
-    program: &TypedProgram,
+    program: &LinkedProgram<'_, H>,
     sets: &Sets,
     set: u32,
     function: &TypedFunction,
     args: &[Value],
     element: u32,
 ) -> Result<L<Contribution>, Stopped<Trapped>>
-    ensures { Means (spec.of_element element (spec.contributions_at program.now sets.now set function.now args.now element)) result }
+    ensures { Means (spec.of_element element (spec.contributions_at (linked H.answer program.now) sets.now set function.now args.now element)) result }
 {
     let call = Call {
         program,
@@ -79,15 +81,15 @@ fn append(so_far: &mut L<Contribution>, more: L<Contribution>) -> Result<(), NoM
 
 /// What all elements of a set contribute, in their order, or the trap of the least element that traps.
 #[tactic(auto, unfolding(algebra_meaning::specs::Assembled::all_contributions), using(crate::proofs::Contributed::element_taken, crate::proofs::Contributed::element_stopped, crate::proofs::Contributed::elements_ended))]
-fn all_contributions(
+fn all_contributions<H: HostMeaning>(
     alloc: Global,
-    program: &TypedProgram,
+    program: &LinkedProgram<'_, H>,
     sets: &Sets,
     set: u32,
     function: &TypedFunction,
     args: &[Value],
 ) -> Result<L<Contribution>, Stopped<Trapped>>
-    ensures { Means (spec.all_contributions program.now sets.now set function.now args.now) result }
+    ensures { Means (spec.all_contributions (linked H.answer program.now) sets.now set function.now args.now) result }
 {
     number_laws::<L<Contribution>, Trapped>();
     let mut so_far = L::empty(alloc);
@@ -103,15 +105,15 @@ fn all_contributions(
 /// The results of a function that is mapped to a set, by the values of its scalar arguments: each the sum of what all
 /// elements contribute; or the least element that traps, with its trap.
 #[tactic(auto, unfolding(algebra_meaning::specs::Assembled::mapped))]
-pub fn mapped(
+pub fn mapped<H: HostMeaning>(
     alloc: Global,
-    program: &TypedProgram,
+    program: &LinkedProgram<'_, H>,
     sets: &Sets,
     set: u32,
     function: &TypedFunction,
     args: &[Value],
 ) -> Result<L<Value>, Stopped<Trapped>>
-    ensures { Means (spec.mapped program.now sets.now set function.now args.now) result }
+    ensures { Means (spec.mapped (linked H.answer program.now) sets.now set function.now args.now) result }
 {
     let contributed = all_contributions(alloc, program, sets, set, function, args)?;
     let results = all_assembled(alloc, sets, contributed.items(), function.results.items())?;

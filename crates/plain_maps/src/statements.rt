@@ -8,6 +8,7 @@ ghost use Rattle.algebra_meaning.specs.Means.{Means};
 use crate::call::Call;
 use crate::locals::{copies, with_local, with_other, word_of_local};
 use algebra_meaning::{Contribution, Point, Stopped, end_of, holds, meaning};
+use host_table::HostMeaning;
 use loop_laws::{item_laws, number_laws};
 use ring_words::TrapKind;
 use std::alloc::Global;
@@ -16,26 +17,26 @@ use value_algebra::Value;
 use vocabulary::L;
 
 /// What an expression means, by the locals.
-fn value_in(
+fn value_in<H: HostMeaning>(
     alloc: Global,
     e: &TypedExpr,
-    call: &Call<'_>,
+    call: &Call<'_, H>,
     locals: &[Value],
 ) -> Result<Value, Stopped<TrapKind>>
-    ensures { Means (expressions.meaning (spec.scope_of call.now locals.now) e.now) result }
+    ensures { Means (expressions.meaning (spec.scope_of (spec.call_in H.answer call.now) locals.now) e.now) result }
 {
     let scope = call.scope(locals);
     meaning(alloc, e, &scope)
 }
 
 /// Whether a condition holds, by the locals.
-fn holds_in(
+fn holds_in<H: HostMeaning>(
     alloc: Global,
     cond: &TypedCond,
-    call: &Call<'_>,
+    call: &Call<'_, H>,
     locals: &[Value],
 ) -> Result<bool, Stopped<TrapKind>>
-    ensures { Means (expressions.holds (spec.scope_of call.now locals.now) cond.now) result }
+    ensures { Means (expressions.holds (spec.scope_of (spec.call_in H.answer call.now) locals.now) cond.now) result }
 {
     let scope = call.scope(locals);
     holds(alloc, cond, &scope)
@@ -43,14 +44,14 @@ fn holds_in(
 
 /// A new local gets a value.
 #[tactic(auto, unfolding(algebra_meaning::specs::Element::new_local))]
-fn new_local(
+fn new_local<H: HostMeaning>(
     alloc: Global,
     local: u32,
     e: &TypedExpr,
-    call: &Call<'_>,
+    call: &Call<'_, H>,
     point: Point,
 ) -> Result<Point, Stopped<TrapKind>>
-    ensures { Means (spec.new_local call.now local e.now point) result }
+    ensures { Means (spec.new_local (spec.call_in H.answer call.now) local e.now point) result }
 {
     let value = value_in(alloc, e, call, point.locals.items())?;
     let locals = with_local(point.locals, local, value)?;
@@ -62,14 +63,14 @@ fn new_local(
 
 /// A local gets another value.
 #[tactic(auto, unfolding(algebra_meaning::specs::Element::assigned_local))]
-fn assigned_local(
+fn assigned_local<H: HostMeaning>(
     alloc: Global,
     local: u32,
     e: &TypedExpr,
-    call: &Call<'_>,
+    call: &Call<'_, H>,
     point: Point,
 ) -> Result<Point, Stopped<TrapKind>>
-    ensures { Means (spec.assigned_local call.now local e.now point) result }
+    ensures { Means (spec.assigned_local (spec.call_in H.answer call.now) local e.now point) result }
 {
     let value = value_in(alloc, e, call, point.locals.items())?;
     let locals = with_other(point.locals, local, value);
@@ -90,8 +91,12 @@ fn position_of(locals: &[Value], index: PlaceIndex) -> u64
 }
 
 /// The element that a place names; 0 where there is no place.
-fn element_at(call: &Call<'_>, locals: &[Value], place: Option<WrittenPlace>) -> u32
-    ensures { result ≡ spec.element_at call.now locals.now place }
+fn element_at<H: HostMeaning>(
+    call: &Call<'_, H>,
+    locals: &[Value],
+    place: Option<WrittenPlace>,
+) -> u32
+    ensures { result ≡ spec.element_at (spec.call_in H.answer call.now) locals.now place }
 {
     match place {
         None => 0,
@@ -104,15 +109,15 @@ fn element_at(call: &Call<'_>, locals: &[Value], place: Option<WrittenPlace>) ->
 
 /// A contribution is made.
 #[tactic(auto, unfolding(algebra_meaning::specs::Element::contributes))]
-fn contributes(
+fn contributes<H: HostMeaning>(
     alloc: Global,
     number: u32,
     places: &[WrittenPlace],
     e: &TypedExpr,
-    call: &Call<'_>,
+    call: &Call<'_, H>,
     point: Point,
 ) -> Result<Point, Stopped<TrapKind>>
-    ensures { Means (spec.contributes call.now number places.now e.now point) result }
+    ensures { Means (spec.contributes (spec.call_in H.answer call.now) number places.now e.now point) result }
 {
     let block = value_in(alloc, e, call, point.locals.items())?;
     let contribution = Contribution {
@@ -131,13 +136,13 @@ fn contributes(
 
 /// A condition has to hold.
 #[tactic(auto, unfolding(algebra_meaning::specs::Element::asserted))]
-fn asserted(
+fn asserted<H: HostMeaning>(
     alloc: Global,
     cond: &TypedCond,
-    call: &Call<'_>,
+    call: &Call<'_, H>,
     point: Point,
 ) -> Result<Point, Stopped<TrapKind>>
-    ensures { Means (spec.asserted call.now cond.now point) result }
+    ensures { Means (spec.asserted (spec.call_in H.answer call.now) cond.now point) result }
 {
     if holds_in(alloc, cond, call, point.locals.items())? {
         Ok(point)
@@ -149,13 +154,13 @@ fn asserted(
 /// A statement.
 #[cycle(statement)]
 #[tactic(auto, unfolding(algebra_meaning::specs::Element::statement_steps, algebra_meaning::specs::Element::chosen))]
-fn statement(
+fn statement<H: HostMeaning>(
     statement: &FunctionStmt,
     alloc: Global,
-    call: &Call<'_>,
+    call: &Call<'_, H>,
     point: Point,
 ) -> Result<Point, Stopped<TrapKind>>
-    ensures { Means (spec.steps_of call.now statement.now point) result }
+    ensures { Means (spec.steps_of (spec.call_in H.answer call.now) statement.now point) result }
 {
     match statement {
         FunctionStmt::Var { local, value, .. } => new_local(alloc, *local, value, call, point),
@@ -194,13 +199,13 @@ fn statement(
 /// Statements, one after the other.
 #[cycle(statement)]
 #[tactic(auto, using(crate::proofs::Loops::statement_taken, crate::proofs::Loops::statement_stopped, crate::proofs::Loops::statements_ended))]
-fn in_order(
+fn in_order<H: HostMeaning>(
     body: &[FunctionStmt],
     alloc: Global,
-    call: &Call<'_>,
+    call: &Call<'_, H>,
     start: Point,
 ) -> Result<Point, Stopped<TrapKind>>
-    ensures { Means (spec.in_order (map (spec.steps_of call.now) body.now) start) result }
+    ensures { Means (spec.in_order (map (spec.steps_of (spec.call_in H.answer call.now)) body.now) start) result }
 {
     item_laws::<Point, FunctionStmt, TrapKind>();
     let mut point = start;
@@ -212,15 +217,15 @@ fn in_order(
 
 /// A turn of a loop, whose variable has this value.
 #[cycle(statement)]
-fn turn(
+fn turn<H: HostMeaning>(
     body: &[FunctionStmt],
     alloc: Global,
     local: u32,
     value: u32,
-    call: &Call<'_>,
+    call: &Call<'_, H>,
     point: Point,
 ) -> Result<Point, Stopped<TrapKind>>
-    ensures { Means (spec.turn local (map (spec.steps_of call.now) body.now) point value) result }
+    ensures { Means (spec.turn local (map (spec.steps_of (spec.call_in H.answer call.now)) body.now) point value) result }
 {
     let number = Value::number(alloc, u64::from(value))?;
     let locals = with_local(point.locals, local, number)?;
@@ -234,15 +239,15 @@ fn turn(
 /// A loop, whose variable goes from the first bound up to below the second.
 #[cycle(statement)]
 #[tactic(auto, unfolding(algebra_meaning::specs::Element::looped), using(crate::proofs::Loops::turn_taken, crate::proofs::Loops::turn_stopped, crate::proofs::Loops::turns_ended))]
-fn looped(
+fn looped<H: HostMeaning>(
     body: &[FunctionStmt],
     alloc: Global,
     local: u32,
     bounds: (u32, u32),
-    call: &Call<'_>,
+    call: &Call<'_, H>,
     start: Point,
 ) -> Result<Point, Stopped<TrapKind>>
-    ensures { Means (spec.looped local bounds.0 bounds.1 (map (spec.steps_of call.now) body.now) start) result }
+    ensures { Means (spec.looped local bounds.0 bounds.1 (map (spec.steps_of (spec.call_in H.answer call.now)) body.now) start) result }
 {
     number_laws::<Point, TrapKind>();
     let (from, to) = bounds;
@@ -255,13 +260,13 @@ fn looped(
 
 /// What a function contributes at an element, by the values of its scalar arguments, or its first trap.
 #[tactic(auto, unfolding(algebra_meaning::specs::Element::contributions))]
-pub(crate) fn contributions(
+pub(crate) fn contributions<H: HostMeaning>(
     alloc: Global,
-    call: &Call<'_>,
+    call: &Call<'_, H>,
     function: &TypedFunction,
     args: &[Value],
 ) -> Result<L<Contribution>, Stopped<TrapKind>>
-    ensures { Means (spec.contributions call.now function.now args.now) result }
+    ensures { Means (spec.contributions (spec.call_in H.answer call.now) function.now args.now) result }
 {
     let start = Point {
         locals: copies(alloc, args)?,

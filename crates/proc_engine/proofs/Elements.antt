@@ -7,13 +7,13 @@ use Rattle.vocabulary.specs.Answers.{◌>>=◌, fold_result}
 use Rattle.hypergraph.specs.SetValue.{SetValue}
 use Rattle.hypergraph.specs.Sets.{set_at}
 use Rattle.typed_tree.specs.declared.function.TypedFunction.{TypedFunction}
-use Rattle.typed_tree.specs.declared.program.TypedProgram.{TypedProgram}
 use Rattle.value_algebra.specs.declared.value.Value.{Value}
 use Rattle.algebra_meaning.specs.declared.contribution.Contribution.{Contribution}
 use Rattle.algebra_meaning.specs.declared.stopped.Stopped.{Stopped}
 use Rattle.algebra_meaning.specs.declared.stopped.Stopped.TheVariants.{By}
 use Rattle.algebra_meaning.specs.declared.stopped.Trapped.{Trapped}
 use Rattle.algebra_meaning.specs.Assembled.{all_assembled, all_contributions, contributions_at, mapped, of_element, with_element}
+use Rattle.algebra_meaning.specs.Linked.{LinkedProgram}
 use Rattle.loop_laws.specs.Loops.{NumberLaws}
 use Rattle.proc_engine.specs.Running.{those_of}
 use Rattle.proc_engine.specs.Sums.{below, contributed_below}
@@ -53,7 +53,7 @@ with_next step before after n taken next =
     ap (fold_result step []) (range_more n) ∙ fold_more step [] (range_with_len 0 n) n ∙ ap (λ (r : Result (List Contribution) Trapped). r >>= λ so_far. step so_far n) taken ∙ next
 
 -- an element is added
-element_added : (program : TypedProgram) (sets : List SetValue) (set : ℕ) (function : TypedFunction) (args : List Value) (contributed : List Contribution) (n : ℕ)
+element_added : (program : LinkedProgram) (sets : List SetValue) (set : ℕ) (function : TypedFunction) (args : List Value) (contributed : List Contribution) (n : ℕ)
     → below program sets set function args n ≡ Ok (contributed_below program sets set function args n)
     → of_element n (contributions_at program sets set function args n) ≡ Ok contributed
     → below program sets set function args (n + 1) ≡ Ok (contributed_below program sets set function args n ++ contributed)
@@ -62,12 +62,12 @@ element_added program sets set function args contributed n taken is =
     (ap (λ (r : Result (List Contribution) Trapped). r >>= λ c. Ok (contributed_below program sets set function args n ++ c)) is)
 
 -- one that is known is what is kept
-kept : (program : TypedProgram) (sets : List SetValue) (set : ℕ) (function : TypedFunction) (args : List Value) (known : List Contribution) (n : ℕ)
+kept : (program : LinkedProgram) (sets : List SetValue) (set : ℕ) (function : TypedFunction) (args : List Value) (known : List Contribution) (n : ℕ)
     → below program sets set function args n ≡ Ok known → contributed_below program sets set function args n ≡ known
 kept program sets set function args known n is = ap those_of is
 
 -- an element is added to those below it
-pub next_taken : (program : TypedProgram) (sets : List SetValue) (set : ℕ) (function : TypedFunction) (args : List Value) (contributed : List Contribution) (n : ℕ)
+pub next_taken : (program : LinkedProgram) (sets : List SetValue) (set : ℕ) (function : TypedFunction) (args : List Value) (contributed : List Contribution) (n : ℕ)
     → below program sets set function args n ≡ Ok (contributed_below program sets set function args n)
     → of_element n (contributions_at program sets set function args n) ≡ Ok contributed
     → below program sets set function args (n + 1) ≡ Ok (contributed_below program sets set function args (n + 1))
@@ -75,7 +75,7 @@ next_taken program sets set function args contributed n taken is =
     let more : below program sets set function args (n + 1) ≡ Ok (contributed_below program sets set function args n ++ contributed) = element_added program sets set function args contributed n taken is in
     more ∙ ap Ok (sym (kept program sets set function args (contributed_below program sets set function args n ++ contributed) (n + 1) more))
 
-pub next_kept : (program : TypedProgram) (sets : List SetValue) (set : ℕ) (function : TypedFunction) (args : List Value) (contributed : List Contribution) (n : ℕ)
+pub next_kept : (program : LinkedProgram) (sets : List SetValue) (set : ℕ) (function : TypedFunction) (args : List Value) (contributed : List Contribution) (n : ℕ)
     → below program sets set function args n ≡ Ok (contributed_below program sets set function args n)
     → of_element n (contributions_at program sets set function args n) ≡ Ok contributed
     → contributed_below program sets set function args (n + 1) ≡ contributed_below program sets set function args n ++ contributed
@@ -83,7 +83,7 @@ next_kept program sets set function args contributed n taken is =
     kept program sets set function args (contributed_below program sets set function args n ++ contributed) (n + 1) (element_added program sets set function args contributed n taken is)
 
 -- those that are left, after one
-pub left_after : NumberLaws (List Contribution) Trapped → (program : TypedProgram) (sets : List SetValue) (set : ℕ) (function : TypedFunction) (args : List Value) (before contributed after : List Contribution)
+pub left_after : NumberLaws (List Contribution) Trapped → (program : LinkedProgram) (sets : List SetValue) (set : ℕ) (function : TypedFunction) (args : List Value) (before contributed after : List Contribution)
     (known : Result (List Contribution) Trapped) (n to : ℕ)
     → n < to → of_element n (contributions_at program sets set function args n) ≡ Ok contributed → after ≡ before ++ contributed
     → fold_result (with_element program sets set function args) before (range_with_len n (to - n)) ≡ known
@@ -93,14 +93,14 @@ left_after laws program sets set function args before contributed after known n 
     (ap (λ (r : Result (List Contribution) Trapped). r >>= λ c. Ok (before ++ c)) is ∙ ap Ok (sym more)) so_far
 
 -- all elements are left
-pub elements_begun : (program : TypedProgram) (sets : List SetValue) (set : ℕ) (function : TypedFunction) (args : List Value)
+pub elements_begun : (program : LinkedProgram) (sets : List SetValue) (set : ℕ) (function : TypedFunction) (args : List Value)
     → fold_result (with_element program sets set function args) [] (range_with_len 0 ((set_at sets set).count - 0)) ≡ all_contributions program sets set function args
 unfolding all_contributions
 elements_begun program sets set function args =
     ap (λ n. fold_result (with_element program sets set function args) [] (range_with_len 0 n)) (let all : (set_at sets set).count - 0 ≡ (set_at sets set).count = omega arith in all)
 
 -- an element traps
-pub element_stopped : NumberLaws (List Contribution) Trapped → (program : TypedProgram) (sets : List SetValue) (set : ℕ) (function : TypedFunction) (args : List Value) (before : List Contribution) (n end : ℕ)
+pub element_stopped : NumberLaws (List Contribution) Trapped → (program : LinkedProgram) (sets : List SetValue) (set : ℕ) (function : TypedFunction) (args : List Value) (before : List Contribution) (n end : ℕ)
     (stopped : Stopped Trapped)
     → end ≡ (set_at sets set).count → n < end → ((trapped : Trapped) → stopped ≡ By trapped → of_element n (contributions_at program sets set function args n) ≡ Err trapped)
     → fold_result (with_element program sets set function args) before (range_with_len n ((set_at sets set).count - n)) ≡ all_contributions program sets set function args
@@ -113,7 +113,7 @@ element_stopped laws program sets set function args before n end stopped last un
     (ap (λ (r : Result (List Contribution) Trapped). r >>= λ c. Ok (before ++ c)) (stops trapped is)) so_far)
 
 -- no element is left
-pub elements_ended : NumberLaws (List Contribution) Trapped → (program : TypedProgram) (sets : List SetValue) (set : ℕ) (function : TypedFunction) (args : List Value) (before : List Contribution) (sums : List Value) (n end : ℕ)
+pub elements_ended : NumberLaws (List Contribution) Trapped → (program : LinkedProgram) (sets : List SetValue) (set : ℕ) (function : TypedFunction) (args : List Value) (before : List Contribution) (sums : List Value) (n end : ℕ)
     → end ≡ (set_at sets set).count → end ≤ n → sums ≡ all_assembled sets before 0 function.results
     → fold_result (with_element program sets set function args) before (range_with_len n ((set_at sets set).count - n)) ≡ all_contributions program sets set function args
     → mapped program sets set function args ≡ Ok sums

@@ -13,6 +13,7 @@ ghost use Rattle.proc_engine.specs.Running.{Runs, point};
 use algebra_meaning::{Point, Stopped, end_of};
 use assembly_sums::Sums;
 use element_words::{evaluate, holds};
+use host_table::HostMeaning;
 use loop_laws::{item_laws, number_laws};
 use plain_maps::Call;
 use ring_words::TrapKind;
@@ -20,13 +21,13 @@ use typed_tree::{FunctionStmt, PlaceIndex, TypedCond, TypedExpr, TypedResult, Wr
 use word_stacks::{Locals, Size, Words};
 
 /// The words of an expression, alone on the stack, and its size; or its first trap.
-fn value_in(
+fn value_in<H: HostMeaning>(
     e: &TypedExpr,
-    call: &Call<'_>,
+    call: &Call<'_, H>,
     locals: &Locals,
     stack: &mut Vec<u64>,
 ) -> Result<Size, Stopped<TrapKind>>
-    ensures { Appends (expressions.meaning (spec.scope_of call.now locals.now) e.now) result stack.new.items }
+    ensures { Appends (expressions.meaning (spec.scope_of (spec.call_in H.answer call.now) locals.now) e.now) result stack.new.items }
 {
     stack.clear();
     let scope = Words {
@@ -39,13 +40,13 @@ fn value_in(
 }
 
 /// Whether a condition holds, or its first trap.
-fn holds_in(
+fn holds_in<H: HostMeaning>(
     cond: &TypedCond,
-    call: &Call<'_>,
+    call: &Call<'_, H>,
     locals: &Locals,
     stack: &mut Vec<u64>,
 ) -> Result<bool, Stopped<TrapKind>>
-    ensures { Means (expressions.holds (spec.scope_of call.now locals.now) cond.now) result }
+    ensures { Means (expressions.holds (spec.scope_of (spec.call_in H.answer call.now) locals.now) cond.now) result }
 {
     let scope = Words {
         program: call.program,
@@ -58,14 +59,14 @@ fn holds_in(
 
 /// A new local gets a value.
 #[tactic(auto, unfolding(algebra_meaning::specs::Element::new_local))]
-fn new_local(
+fn new_local<H: HostMeaning>(
     local: u32,
     e: &TypedExpr,
-    call: &Call<'_>,
+    call: &Call<'_, H>,
     locals: &mut Locals,
     stack: &mut Vec<u64>,
 ) -> Result<(), Stopped<TrapKind>>
-    ensures { (contributed : List contribution.Contribution) → Leads (spec.new_local call.now local e.now (point locals.old contributed)) result (point locals.new contributed) }
+    ensures { (contributed : List contribution.Contribution) → Leads (spec.new_local (spec.call_in H.answer call.now) local e.now (point locals.old contributed)) result (point locals.new contributed) }
 {
     let size = value_in(e, call, locals, stack)?;
     locals.set_from(local, size, stack)?;
@@ -74,14 +75,14 @@ fn new_local(
 
 /// A local gets another value.
 #[tactic(auto, unfolding(algebra_meaning::specs::Element::assigned_local))]
-fn assigned_local(
+fn assigned_local<H: HostMeaning>(
     local: u32,
     e: &TypedExpr,
-    call: &Call<'_>,
+    call: &Call<'_, H>,
     locals: &mut Locals,
     stack: &mut Vec<u64>,
 ) -> Result<(), Stopped<TrapKind>>
-    ensures { (contributed : List contribution.Contribution) → Leads (spec.assigned_local call.now local e.now (point locals.old contributed)) result (point locals.new contributed) }
+    ensures { (contributed : List contribution.Contribution) → Leads (spec.assigned_local (spec.call_in H.answer call.now) local e.now (point locals.old contributed)) result (point locals.new contributed) }
 {
     let size = value_in(e, call, locals, stack)?;
     locals.assign(local, size, stack)?;
@@ -99,8 +100,12 @@ fn position_of(locals: &Locals, index: PlaceIndex) -> u64
 }
 
 /// The element that a place names; 0 where there is no place.
-fn element_at(call: &Call<'_>, locals: &Locals, place: Option<WrittenPlace>) -> u32
-    ensures { result ≡ spec.element_at call.now locals.now place }
+fn element_at<H: HostMeaning>(
+    call: &Call<'_, H>,
+    locals: &Locals,
+    place: Option<WrittenPlace>,
+) -> u32
+    ensures { result ≡ spec.element_at (spec.call_in H.answer call.now) locals.now place }
 {
     match place {
         None => 0,
@@ -113,18 +118,18 @@ fn element_at(call: &Call<'_>, locals: &Locals, place: Option<WrittenPlace>) -> 
 
 /// A contribution is added.
 #[tactic(auto, unfolding(algebra_meaning::specs::Element::contributes), using(crate::proofs::Running::written))]
-fn contributes(
+fn contributes<H: HostMeaning>(
     number: u32,
     places: &[WrittenPlace],
     e: &TypedExpr,
-    call: &Call<'_>,
+    call: &Call<'_, H>,
     results: &[TypedResult],
     locals: &Locals,
     sums: &mut Sums,
     stack: &mut Vec<u64>,
 ) -> Result<(), Stopped<TrapKind>>
     ensures { (before contributed : List contribution.Contribution) → sums.old ≡ all_assembled call.now.sets (before ++ contributed) 0 results.now
-        → Runs call.now.sets results.now before (spec.contributes call.now number places.now e.now (point locals.now contributed)) result locals.now sums.new }
+        → Runs call.now.sets results.now before (spec.contributes (spec.call_in H.answer call.now) number places.now e.now (point locals.now contributed)) result locals.now sums.new }
 {
     let size = value_in(e, call, locals, stack)?;
     let row = element_at(call, locals, places.first().copied());
@@ -135,13 +140,13 @@ fn contributes(
 
 /// A condition has to hold.
 #[tactic(auto, unfolding(algebra_meaning::specs::Element::asserted))]
-fn asserted(
+fn asserted<H: HostMeaning>(
     cond: &TypedCond,
-    call: &Call<'_>,
+    call: &Call<'_, H>,
     locals: &Locals,
     stack: &mut Vec<u64>,
 ) -> Result<(), Stopped<TrapKind>>
-    ensures { (contributed : List contribution.Contribution) → Leads (spec.asserted call.now cond.now (point locals.now contributed)) result (point locals.now contributed) }
+    ensures { (contributed : List contribution.Contribution) → Leads (spec.asserted (spec.call_in H.answer call.now) cond.now (point locals.now contributed)) result (point locals.now contributed) }
 {
     if holds_in(cond, call, locals, stack)? {
         Ok(())
@@ -153,16 +158,16 @@ fn asserted(
 /// A statement.
 #[cycle(statement)]
 #[tactic(auto, unfolding(algebra_meaning::specs::Element::statement_steps, algebra_meaning::specs::Element::chosen))]
-fn statement(
+fn statement<H: HostMeaning>(
     statement: &FunctionStmt,
-    call: &Call<'_>,
+    call: &Call<'_, H>,
     results: &[TypedResult],
     locals: &mut Locals,
     sums: &mut Sums,
     stack: &mut Vec<u64>,
 ) -> Result<(), Stopped<TrapKind>>
     ensures { (before contributed : List contribution.Contribution) → sums.old ≡ all_assembled call.now.sets (before ++ contributed) 0 results.now
-        → Runs call.now.sets results.now before (spec.steps_of call.now statement.now (point locals.old contributed)) result locals.new sums.new }
+        → Runs call.now.sets results.now before (spec.steps_of (spec.call_in H.answer call.now) statement.now (point locals.old contributed)) result locals.new sums.new }
 {
     match statement {
         FunctionStmt::Var { local, value, .. } => new_local(*local, value, call, locals, stack),
@@ -218,16 +223,16 @@ fn statement(
 
 /// Statements, one after the other.
 #[cycle(statement)]
-pub(crate) fn in_order(
+pub(crate) fn in_order<H: HostMeaning>(
     body: &[FunctionStmt],
-    call: &Call<'_>,
+    call: &Call<'_, H>,
     results: &[TypedResult],
     locals: &mut Locals,
     sums: &mut Sums,
     stack: &mut Vec<u64>,
 ) -> Result<(), Stopped<TrapKind>>
     ensures { (before contributed : List contribution.Contribution) → sums.old ≡ all_assembled call.now.sets (before ++ contributed) 0 results.now
-        → Runs call.now.sets results.now before (spec.in_order (map (spec.steps_of call.now) body.now) (point locals.old contributed)) result locals.new sums.new }
+        → Runs call.now.sets results.now before (spec.in_order (map (spec.steps_of (spec.call_in H.answer call.now)) body.now) (point locals.old contributed)) result locals.new sums.new }
 {
     item_laws::<Point, FunctionStmt, TrapKind>();
     for one in body {
@@ -238,18 +243,18 @@ pub(crate) fn in_order(
 
 /// A turn of a loop, whose variable has this value.
 #[cycle(statement)]
-fn turn(
+fn turn<H: HostMeaning>(
     body: &[FunctionStmt],
     local: u32,
     value: u32,
-    call: &Call<'_>,
+    call: &Call<'_, H>,
     results: &[TypedResult],
     locals: &mut Locals,
     sums: &mut Sums,
     stack: &mut Vec<u64>,
 ) -> Result<(), Stopped<TrapKind>>
     ensures { (before contributed : List contribution.Contribution) → sums.old ≡ all_assembled call.now.sets (before ++ contributed) 0 results.now
-        → Runs call.now.sets results.now before (spec.turn local (map (spec.steps_of call.now) body.now) (point locals.old contributed) value) result locals.new sums.new }
+        → Runs call.now.sets results.now before (spec.turn local (map (spec.steps_of (spec.call_in H.answer call.now)) body.now) (point locals.old contributed) value) result locals.new sums.new }
 {
     let size = Size {
         rows: 1,
@@ -262,18 +267,18 @@ fn turn(
 /// A loop, whose variable goes from the first bound up to below the second.
 #[cycle(statement)]
 #[tactic(auto, unfolding(algebra_meaning::specs::Element::looped))]
-fn looped(
+fn looped<H: HostMeaning>(
     body: &[FunctionStmt],
     local: u32,
     bounds: (u32, u32),
-    call: &Call<'_>,
+    call: &Call<'_, H>,
     results: &[TypedResult],
     locals: &mut Locals,
     sums: &mut Sums,
     stack: &mut Vec<u64>,
 ) -> Result<(), Stopped<TrapKind>>
     ensures { (before contributed : List contribution.Contribution) → sums.old ≡ all_assembled call.now.sets (before ++ contributed) 0 results.now
-        → Runs call.now.sets results.now before (spec.looped local bounds.0 bounds.1 (map (spec.steps_of call.now) body.now) (point locals.old contributed)) result locals.new sums.new }
+        → Runs call.now.sets results.now before (spec.looped local bounds.0 bounds.1 (map (spec.steps_of (spec.call_in H.answer call.now)) body.now) (point locals.old contributed)) result locals.new sums.new }
 {
     number_laws::<Point, TrapKind>();
     let (from, to) = bounds;

@@ -18,7 +18,7 @@ use Rattle.typed_tree.specs.declared.main_procedure.TypedRight.{TypedRight}
 use Rattle.typed_tree.specs.declared.main_procedure.TypedRight.TheVariants as right
 use Rattle.typed_tree.specs.declared.main_procedure.TypedTarget.{TypedTarget}
 use Rattle.typed_tree.specs.declared.main_procedure.TypedTarget.TheVariants as target
-use Rattle.typed_tree.specs.declared.program.TypedProgram.{TypedProgram}
+use Rattle.algebra_meaning.specs.Linked.{LinkedProgram}
 use Rattle.value_algebra.specs.declared.value.Value.{Value}
 use Rattle.value_algebra.specs.Value.{number, word_of}
 use Rattle.algebra_meaning.specs.Expression.{meaning, meanings, holds}
@@ -38,7 +38,7 @@ use Rattle.run_laws.proofs.Forms.{var_is, assign_is, while_is, for_is, choice_is
 
 -- ---- right sides
 
-right_answered : (program : TypedProgram) (line : ℕ) (state : State) (r : TypedRight) → Yields program line state r (right_values program state line r)
+right_answered : (program : LinkedProgram) (line : ℕ) (state : State) (r : TypedRight) → Yields program line state r (right_values program state line r)
 unfolding right_values
 right_answered program line state (right.Value e) = by_value (meaning (names_in program state) e) refl
   where
@@ -49,31 +49,31 @@ right_answered program line state (right.Value e) = by_value (meaning (names_in 
 right_answered program line state (right.Map f set args) = by_arguments (meanings (names_in program state) args) refl
   where
     by_map : (values : List Value) (function : TypedFunction) (m : Result (List Value) Trapped)
-        → meanings (names_in program state) args ≡ Ok values → slice_get program.functions f ≡ Some function
+        → meanings (names_in program state) args ≡ Ok values → slice_get program.typed.functions f ≡ Some function
         → MapsTo program state.sets set function values m → Yields program line state (right.Map f set args) (at_element line m)
     by_map values function (Ok results) given found is = Yields.results f set args values function results given found is
     by_map values function (Err trapped) given found is = Yields.element_traps f set args values function trapped given found is
 
     by_function : (values : List Value) (function : Option TypedFunction) → meanings (names_in program state) args ≡ Ok values
-        → slice_get program.functions f ≡ function → Yields program line state (right.Map f set args) (spec.map_values program state line function set values)
+        → slice_get program.typed.functions f ≡ function → Yields program line state (right.Map f set args) (spec.map_values program state line function set values)
     by_function values None given found = Yields.no_function f set args values given found
     by_function values (Some function) given found = by_map values function (mapped program state.sets set function values) given found
         (map_answered program state.sets set function values)
 
     by_arguments : (m : Result (List Value) TrapKind) → meanings (names_in program state) args ≡ m
         → Yields program line state (right.Map f set args)
-        (at line m >>= λ values. spec.map_values program state line (slice_get program.functions f) set values)
-    by_arguments (Ok values) given = by_function values (slice_get program.functions f) given refl
+        (at line m >>= λ values. spec.map_values program state line (slice_get program.typed.functions f) set values)
+    by_arguments (Ok values) given = by_function values (slice_get program.typed.functions f) given refl
     by_arguments (Err kind) given = Yields.argument_traps f set args kind given
 
 -- ---- targets
 
-changed : (program : TypedProgram) (state : State) (t : TypedTarget) (value : Value) → IsChanged program state t value (assigned program state (t, value))
+changed : (program : LinkedProgram) (state : State) (t : TypedTarget) (value : Value) → IsChanged program state t value (assigned program state (t, value))
 unfolding assigned
 changed program state (target.Variable variable) value = IsChanged.variable variable value
 changed program state (target.Field set field) value = IsChanged.field set field value
 
-all_changed : (program : TypedProgram) (ts : List TypedTarget) (values : List Value) (state : State)
+all_changed : (program : LinkedProgram) (ts : List TypedTarget) (values : List Value) (state : State)
     → AreChanged program ts values state (spec.all_assigned program state (zip ts values))
 all_changed program [] values state = AreChanged.no_target values state
 all_changed program (t ∷ ts) [] state = AreChanged.no_value_left t ts state
@@ -83,13 +83,13 @@ all_changed program (t ∷ ts) (value ∷ values) state =
 
 -- ---- statements
 
-abbrev Sound : TypedProgram → MainStmt → Type 0
+abbrev Sound : LinkedProgram → MainStmt → Type 0
 Sound program s = (state : State) → RunsTo program s state (runs_of program s state)
 
-by_form : (program : TypedProgram) (s : MainStmt) (f : Runs) → runs_of program s ≡ f → ((state : State) → RunsTo program s state (f state)) → Sound program s
+by_form : (program : LinkedProgram) (s : MainStmt) (f : Runs) → runs_of program s ≡ f → ((state : State) → RunsTo program s state (f state)) → Sound program s
 by_form program s f form here state = subst (λ g. RunsTo program s state (g state)) (sym form) (here state)
 
-var_answered : (program : TypedProgram) (line : ℕ) (numbers : List ℕ) (r : TypedRight) → Sound program (stmt.Var line numbers r)
+var_answered : (program : LinkedProgram) (line : ℕ) (numbers : List ℕ) (r : TypedRight) → Sound program (stmt.Var line numbers r)
 unfolding assignment
 var_answered program line numbers r =
     by_form program (stmt.Var line numbers r) (assignment program line (map target.Variable numbers) r) (var_is program line numbers r)
@@ -101,7 +101,7 @@ var_answered program line numbers r =
         RunsTo.variables line numbers r values state _ yields (all_changed program (map target.Variable numbers) values state)
     by_values state (Err stop) yields = RunsTo.variables_stop line numbers r stop state yields
 
-assign_answered : (program : TypedProgram) (line : ℕ) (targets : List TypedTarget) (r : TypedRight) → Sound program (stmt.Assign line targets r)
+assign_answered : (program : LinkedProgram) (line : ℕ) (targets : List TypedTarget) (r : TypedRight) → Sound program (stmt.Assign line targets r)
 unfolding assignment
 assign_answered program line targets r =
     by_form program (stmt.Assign line targets r) (assignment program line targets r) (assign_is program line targets r)
@@ -114,15 +114,15 @@ assign_answered program line targets r =
 
 -- ---- lists
 
-abbrev AreSound : TypedProgram → List MainStmt → Type 0
+abbrev AreSound : LinkedProgram → List MainStmt → Type 0
 AreSound program body = (state : State) → AllRunTo program body state (in_order (map (runs_of program) body) state)
 
-first_and_others : (program : TypedProgram) (s : MainStmt) (body : List MainStmt) (state : State) (outcome : Result State Stop)
+first_and_others : (program : LinkedProgram) (s : MainStmt) (body : List MainStmt) (state : State) (outcome : Result State Stop)
     → RunsTo program s state outcome → AreSound program body → AllRunTo program (s ∷ body) state (outcome >>= in_order (map (runs_of program) body))
 first_and_others program s body state (Ok between) first others = AllRunTo.one_more s body state between _ first (others between)
 first_and_others program s body state (Err stop) first others = AllRunTo.first_stops s body stop state first
 
-are_answered : (program : TypedProgram) (body : List ((s : MainStmt) × Sound program s)) → AreSound program (map (λ s. s.0) body)
+are_answered : (program : LinkedProgram) (body : List ((s : MainStmt) × Sound program s)) → AreSound program (map (λ s. s.0) body)
 are_answered program [] state = AllRunTo.none state
 are_answered program (s ∷ body) state =
     first_and_others program s.0 (map (λ s. s.0) body) state (runs_of program s.0 state) (s.1 state) (are_answered program body)
@@ -132,7 +132,7 @@ are_answered program (s ∷ body) state =
 few_left : (turns bound left few : ℕ) → suc turns ≤ suc bound → turns ≡ suc left → few ≤ left → suc few ≤ bound
 few_left turns bound left few enough one fewer = omega arith
 
-turn_repeats : (program : TypedProgram) (line : ℕ) (cond : TypedCond) (body : List MainStmt) (bound left : ℕ) (state : State) (next : Runs) (outcome : Result State Stop)
+turn_repeats : (program : LinkedProgram) (line : ℕ) (cond : TypedCond) (body : List MainStmt) (bound left : ℕ) (state : State) (next : Runs) (outcome : Result State Stop)
     → holds (names_in program state) cond ≡ Ok true → state.turns ≡ suc left → suc state.turns ≤ suc bound
     → AllRunTo program body (spec.with_turns state left) outcome
     → ((between : State) → suc between.turns ≤ bound → Repeats program line cond body between (next between))
@@ -143,7 +143,7 @@ turn_repeats program line cond body bound left state next (Ok between) held one 
 turn_repeats program line cond body bound left state next (Err stop) held one enough runs goes_on =
     Repeats.while_stops line cond body left stop state held one runs
 
-due_repeats : (program : TypedProgram) (line : ℕ) (cond : TypedCond) (body : List MainStmt) (bound : ℕ) (state : State) (next : Runs) (turns : ℕ)
+due_repeats : (program : LinkedProgram) (line : ℕ) (cond : TypedCond) (body : List MainStmt) (bound : ℕ) (state : State) (next : Runs) (turns : ℕ)
     → state.turns ≡ turns → holds (names_in program state) cond ≡ Ok true → suc state.turns ≤ suc bound → AreSound program body
     → ((between : State) → suc between.turns ≤ bound → Repeats program line cond body between (next between))
     → Repeats program line cond body state (spec.turn (map (runs_of program) body) state >>= next)
@@ -154,7 +154,7 @@ due_repeats program line cond body bound state next (suc left) one held enough s
     subst (λ o. Repeats program line cond body state (o >>= next)) (sym (turn_begun (map (runs_of program) body) state left one))
     (turn_repeats program line cond body bound left state next _ held one enough (sound (spec.with_turns state left)) goes_on)
 
-tested_repeats : (program : TypedProgram) (line : ℕ) (cond : TypedCond) (body : List MainStmt) (bound : ℕ) (state : State) (next : Runs) (m : Result Bool TrapKind)
+tested_repeats : (program : LinkedProgram) (line : ℕ) (cond : TypedCond) (body : List MainStmt) (bound : ℕ) (state : State) (next : Runs) (m : Result Bool TrapKind)
     → holds (names_in program state) cond ≡ m → suc state.turns ≤ suc bound → AreSound program body
     → ((between : State) → suc between.turns ≤ bound → Repeats program line cond body between (next between))
     → Repeats program line cond body state
@@ -171,7 +171,7 @@ too_few : (turns : ℕ) → suc turns ≤ 0 → ⊥
 too_few turns below = omega arith
 
 -- one more than the turns that are left is enough
-repeats_answered : (program : TypedProgram) (line : ℕ) (cond : TypedCond) (body : List MainStmt) → AreSound program body
+repeats_answered : (program : LinkedProgram) (line : ℕ) (cond : TypedCond) (body : List MainStmt) → AreSound program body
     → (bound : ℕ) (state : State) → suc state.turns ≤ bound
     → Repeats program line cond body state (spec.while_up_to bound (spec.test program line cond) (map (runs_of program) body) state)
 repeats_answered program line cond body sound zero state enough = absurd (too_few state.turns enough)
@@ -180,7 +180,7 @@ repeats_answered program line cond body sound (suc bound) state enough =
     (holds (names_in program state) cond) refl enough sound
     (λ between fewer. repeats_answered program line cond body sound bound between fewer)
 
-while_answered : (program : TypedProgram) (line : ℕ) (cond : TypedCond) (body : List MainStmt) → AreSound program body → Sound program (stmt.While line cond body)
+while_answered : (program : LinkedProgram) (line : ℕ) (cond : TypedCond) (body : List MainStmt) → AreSound program body → Sound program (stmt.While line cond body)
 unfolding while_held
 while_answered program line cond body sound =
     by_form program (stmt.While line cond body) (while_held program line cond (map (runs_of program) body)) (while_is program line cond body)
@@ -191,7 +191,7 @@ while_answered program line cond body sound =
 abbrev counting : ℕ → ℕ → State → ℕ → State
 counting local from state left = spec.with_turns (spec.with_locals state (with_local state.locals local (number from))) left
 
-turn_counts : (program : TypedProgram) (local to : ℕ) (body : List MainStmt) (from bound left : ℕ) (state : State) (next : Runs) (outcome : Result State Stop)
+turn_counts : (program : LinkedProgram) (local to : ℕ) (body : List MainStmt) (from bound left : ℕ) (state : State) (next : Runs) (outcome : Result State Stop)
     → is_less from to ≡ true → state.turns ≡ suc left → suc state.turns ≤ suc bound
     → AllRunTo program body (counting local from state left) outcome
     → ((between : State) → suc between.turns ≤ bound → Counts program local to body (add from 1) between (next between))
@@ -202,7 +202,7 @@ turn_counts program local to body from bound left state next (Ok between) less o
 turn_counts program local to body from bound left state next (Err stop) less one enough runs goes_on =
     Counts.for_stops local to body from left stop state less one runs
 
-due_counts : (program : TypedProgram) (local to : ℕ) (body : List MainStmt) (from bound : ℕ) (state : State) (next : Runs) (turns : ℕ)
+due_counts : (program : LinkedProgram) (local to : ℕ) (body : List MainStmt) (from bound : ℕ) (state : State) (next : Runs) (turns : ℕ)
     → state.turns ≡ turns → is_less from to ≡ true → suc state.turns ≤ suc bound → AreSound program body
     → ((between : State) → suc between.turns ≤ bound → Counts program local to body (add from 1) between (next between))
     → Counts program local to body from state
@@ -216,7 +216,7 @@ due_counts program local to body from bound state next (suc left) one less enoug
     (sym (turn_begun (map (runs_of program) body) (spec.with_locals state (with_local state.locals local (number from))) left one))
     (turn_counts program local to body from bound left state next _ less one enough (sound (counting local from state left)) goes_on)
 
-tested_counts : (program : TypedProgram) (local to : ℕ) (body : List MainStmt) (from bound : ℕ) (state : State) (next : Runs) (test : Bool)
+tested_counts : (program : LinkedProgram) (local to : ℕ) (body : List MainStmt) (from bound : ℕ) (state : State) (next : Runs) (test : Bool)
     → is_less from to ≡ test → suc state.turns ≤ suc bound → AreSound program body
     → ((between : State) → suc between.turns ≤ bound → Counts program local to body (add from 1) between (next between))
     → Counts program local to body from state
@@ -225,7 +225,7 @@ tested_counts program local to body from bound state next true less enough sound
     due_counts program local to body from bound state next state.turns refl less enough sound goes_on
 tested_counts program local to body from bound state next false less enough sound goes_on = Counts.for_ends local to body from state less
 
-counts_answered : (program : TypedProgram) (local to : ℕ) (body : List MainStmt) → AreSound program body
+counts_answered : (program : LinkedProgram) (local to : ℕ) (body : List MainStmt) → AreSound program body
     → (bound from : ℕ) (state : State) → suc state.turns ≤ bound
     → Counts program local to body from state (spec.count_up_to bound local from to (map (runs_of program) body) state)
 counts_answered program local to body sound zero from state enough = absurd (too_few state.turns enough)
@@ -233,7 +233,7 @@ counts_answered program local to body sound (suc bound) from state enough =
     tested_counts program local to body from bound state (spec.count_up_to bound local (add from 1) to (map (runs_of program) body))
     (is_less from to) refl enough sound (λ between fewer. counts_answered program local to body sound bound (add from 1) between fewer)
 
-for_answered : (program : TypedProgram) (line local : ℕ) (from to : TypedExpr) (body : List MainStmt) → AreSound program body
+for_answered : (program : LinkedProgram) (line local : ℕ) (from to : TypedExpr) (body : List MainStmt) → AreSound program body
     → Sound program (stmt.For line local from to body)
 unfolding counted
 for_answered program line local from to body sound =
@@ -256,7 +256,7 @@ for_answered program line local from to body sound =
 
 -- ---- choices and assertions
 
-choice_answered : (program : TypedProgram) (line : ℕ) (cond : TypedCond) (body otherwise : List MainStmt) → AreSound program body → AreSound program otherwise
+choice_answered : (program : LinkedProgram) (line : ℕ) (cond : TypedCond) (body otherwise : List MainStmt) → AreSound program body → AreSound program otherwise
     → Sound program (stmt.If line cond body otherwise)
 unfolding chosen
 choice_answered program line cond body otherwise one two =
@@ -270,7 +270,7 @@ choice_answered program line cond body otherwise one two =
     by_test state (Ok false) is = RunsTo.choice_fails line cond body otherwise state _ is (two state)
     by_test state (Err kind) is = RunsTo.choice_traps line cond body otherwise kind state is
 
-assertion_answered : (program : TypedProgram) (line : ℕ) (cond : TypedCond) → Sound program (stmt.Assert line cond)
+assertion_answered : (program : LinkedProgram) (line : ℕ) (cond : TypedCond) → Sound program (stmt.Assert line cond)
 unfolding asserted
 assertion_answered program line cond =
     by_form program (stmt.Assert line cond) (asserted program line cond) (assertion_is program line cond)
@@ -284,13 +284,13 @@ assertion_answered program line cond =
 
 -- ---- all statements
 
-abbrev S : TypedProgram → Type 0
+abbrev S : LinkedProgram → Type 0
 S program = (s : MainStmt) × Sound program s
 
-abbrev plain : (program : TypedProgram) → MainStmt-F (S program) → MainStmt-F MainStmt
+abbrev plain : (program : LinkedProgram) → MainStmt-F (S program) → MainStmt-F MainStmt
 plain program y = tree.map-MainStmt (S program) MainStmt (λ s. s.0) y
 
-node_answered : (program : TypedProgram) (y : MainStmt-F (S program)) → Sound program (tree.roll-MainStmt (plain program y))
+node_answered : (program : LinkedProgram) (y : MainStmt-F (S program)) → Sound program (tree.roll-MainStmt (plain program y))
 node_answered program (MainStmt-F.Var line numbers r) =
     subst (Sound program) (sym (stmt.rolls-Var line numbers r)) (var_answered program line numbers r)
 node_answered program (MainStmt-F.Assign line targets r) =
@@ -310,7 +310,7 @@ node_answered program (MainStmt-F.Assert line cond) =
 pub statement_answered : IsStatementAnswered
 statement_answered program = ind-MainStmt (Sound program) (λ x y is. subst (λ z. Sound program (tree.roll-MainStmt z)) is (node_answered program y))
 
-list_answered : (program : TypedProgram) (body : List MainStmt) → AreSound program body
+list_answered : (program : LinkedProgram) (body : List MainStmt) → AreSound program body
 list_answered program [] state = AllRunTo.none state
 list_answered program (s ∷ body) state =
     first_and_others program s body state (runs_of program s state) (statement_answered program s state) (list_answered program body)
@@ -319,9 +319,9 @@ list_answered program (s ∷ body) state =
 
 pub program_answered : IsAnswered
 unfolding run
-program_answered program sets turns = by_outcome _ (list_answered program program.body (at_first program sets turns))
+program_answered program sets turns = by_outcome _ (list_answered program program.typed.body (at_first program sets turns))
   where
-    by_outcome : (outcome : Result State Stop) → AllRunTo program program.body (at_first program sets turns) outcome
+    by_outcome : (outcome : Result State Stop) → AllRunTo program program.typed.body (at_first program sets turns) outcome
         → RunsProgram program sets turns (outcome >>= λ state. Ok state.sets)
     by_outcome (Ok after) runs = RunsProgram.ended after runs
     by_outcome (Err stop) runs = RunsProgram.stopped stop runs

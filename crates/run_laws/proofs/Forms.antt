@@ -10,44 +10,44 @@ use Rattle.typed_tree.specs.declared.main_procedure.MainStmt.TheFolds.{fold-roll
 use Rattle.typed_tree.specs.declared.main_procedure.TypedRight.{TypedRight}
 use Rattle.typed_tree.specs.declared.main_procedure.TypedTarget.{TypedTarget}
 use Rattle.typed_tree.specs.declared.main_procedure.TypedTarget.TheVariants as target
-use Rattle.typed_tree.specs.declared.program.TypedProgram.{TypedProgram}
+use Rattle.algebra_meaning.specs.Linked.{LinkedProgram}
 use Rattle.algebra_meaning.specs.Run as spec
 use Rattle.algebra_meaning.specs.Run.{Runs, runs_of, statement_runs}
 use Rattle.algebra_meaning.specs.declared.state.State.{State}
 use Rattle.algebra_meaning.specs.declared.stopped.Stop.TheVariants.{Spent}
 
-rolled : (program : TypedProgram) (x : MainStmt-F MainStmt)
+rolled : (program : LinkedProgram) (x : MainStmt-F MainStmt)
     → runs_of program (tree.roll-MainStmt x) ≡ statement_runs program (tree.map-MainStmt MainStmt Runs (runs_of program) x)
 rolled program x = fold-roll-MainStmt Runs (statement_runs program) x
 
-pub var_is : (program : TypedProgram) (line : ℕ) (numbers : List ℕ) (r : TypedRight)
+pub var_is : (program : LinkedProgram) (line : ℕ) (numbers : List ℕ) (r : TypedRight)
     → runs_of program (stmt.Var line numbers r) ≡ spec.assignment program line (map target.Variable numbers) r
 unfolding statement_runs
 var_is program line numbers r = ap (runs_of program) (sym (stmt.rolls-Var line numbers r)) ∙ rolled program (MainStmt-F.Var line numbers r)
 
-pub assign_is : (program : TypedProgram) (line : ℕ) (targets : List TypedTarget) (r : TypedRight)
+pub assign_is : (program : LinkedProgram) (line : ℕ) (targets : List TypedTarget) (r : TypedRight)
     → runs_of program (stmt.Assign line targets r) ≡ spec.assignment program line targets r
 unfolding statement_runs
 assign_is program line targets r = ap (runs_of program) (sym (stmt.rolls-Assign line targets r)) ∙ rolled program (MainStmt-F.Assign line targets r)
 
-pub while_is : (program : TypedProgram) (line : ℕ) (c : TypedCond) (body : List MainStmt)
+pub while_is : (program : LinkedProgram) (line : ℕ) (c : TypedCond) (body : List MainStmt)
     → runs_of program (stmt.While line c body) ≡ spec.while_held program line c (map (runs_of program) body)
 unfolding statement_runs
 while_is program line c body = ap (runs_of program) (sym (stmt.rolls-While line c body)) ∙ rolled program (MainStmt-F.While line c body)
 
-pub for_is : (program : TypedProgram) (line local : ℕ) (from to : TypedExpr) (body : List MainStmt)
+pub for_is : (program : LinkedProgram) (line local : ℕ) (from to : TypedExpr) (body : List MainStmt)
     → runs_of program (stmt.For line local from to body) ≡ spec.counted program line local from to (map (runs_of program) body)
 unfolding statement_runs
 for_is program line local from to body =
     ap (runs_of program) (sym (stmt.rolls-For line local from to body)) ∙ rolled program (MainStmt-F.For line local from to body)
 
-pub choice_is : (program : TypedProgram) (line : ℕ) (c : TypedCond) (body otherwise : List MainStmt)
+pub choice_is : (program : LinkedProgram) (line : ℕ) (c : TypedCond) (body otherwise : List MainStmt)
     → runs_of program (stmt.If line c body otherwise) ≡ spec.chosen program line c (map (runs_of program) body) (map (runs_of program) otherwise)
 unfolding statement_runs
 choice_is program line c body otherwise =
     ap (runs_of program) (sym (stmt.rolls-If line c body otherwise)) ∙ rolled program (MainStmt-F.If line c body otherwise)
 
-pub assertion_is : (program : TypedProgram) (line : ℕ) (c : TypedCond) → runs_of program (stmt.Assert line c) ≡ spec.asserted program line c
+pub assertion_is : (program : LinkedProgram) (line : ℕ) (c : TypedCond) → runs_of program (stmt.Assert line c) ≡ spec.asserted program line c
 unfolding statement_runs
 assertion_is program line c = ap (runs_of program) (sym (stmt.rolls-Assert line c)) ∙ rolled program (MainStmt-F.Assert line c)
 

@@ -11,7 +11,7 @@ use Rattle.typed_tree.specs.declared.main_procedure.MainStmt.{MainStmt}
 use Rattle.typed_tree.specs.declared.main_procedure.TypedRight.{TypedRight}
 use Rattle.typed_tree.specs.declared.main_procedure.TypedTarget.{TypedTarget}
 use Rattle.typed_tree.specs.declared.main_procedure.TypedTarget.TheVariants as target
-use Rattle.typed_tree.specs.declared.program.TypedProgram.{TypedProgram}
+use Rattle.algebra_meaning.specs.Linked.{LinkedProgram}
 use Rattle.value_algebra.specs.declared.value.Value.{Value}
 use Rattle.value_algebra.specs.Value.{number, word_of}
 use Rattle.algebra_meaning.specs.Element.{with_local}
@@ -27,34 +27,34 @@ use Rattle.run_laws.proofs.Forms.{var_is, assign_is, while_is, for_is, choice_is
 
 -- ---- right sides
 
-only_right : (program : TypedProgram) (line : ℕ) (state : State) (r : TypedRight) (o : Result (List Value) Stop)
+only_right : (program : LinkedProgram) (line : ℕ) (state : State) (r : TypedRight) (o : Result (List Value) Stop)
     → Yields program line state r o → right_values program state line r ≡ o
 unfolding right_values
 only_right program line state r o (Yields.value e v is) = ap (λ m. at line m >>= λ value. Ok (value ∷ [])) is
 only_right program line state r o (Yields.value_traps e kind is) = ap (λ m. at line m >>= λ value. Ok (value ∷ [])) is
 only_right program line state r o (Yields.results f set args values function results given found is) =
-    ap (λ m. at line m >>= λ values. spec.map_values program state line (slice_get program.functions f) set values) given
+    ap (λ m. at line m >>= λ values. spec.map_values program state line (slice_get program.typed.functions f) set values) given
     ∙ ap (λ function. spec.map_values program state line function set values) found
     ∙ ap (at_element line) (map_only program state.sets set function values (Ok results) is)
 only_right program line state r o (Yields.argument_traps f set args kind given) =
-    ap (λ m. at line m >>= λ values. spec.map_values program state line (slice_get program.functions f) set values) given
+    ap (λ m. at line m >>= λ values. spec.map_values program state line (slice_get program.typed.functions f) set values) given
 only_right program line state r o (Yields.element_traps f set args values function trapped given found is) =
-    ap (λ m. at line m >>= λ values. spec.map_values program state line (slice_get program.functions f) set values) given
+    ap (λ m. at line m >>= λ values. spec.map_values program state line (slice_get program.typed.functions f) set values) given
     ∙ ap (λ function. spec.map_values program state line function set values) found
     ∙ ap (at_element line) (map_only program state.sets set function values (Err trapped) is)
 only_right program line state r o (Yields.no_function f set args values given found) =
-    ap (λ m. at line m >>= λ values. spec.map_values program state line (slice_get program.functions f) set values) given
+    ap (λ m. at line m >>= λ values. spec.map_values program state line (slice_get program.typed.functions f) set values) given
     ∙ ap (λ function. spec.map_values program state line function set values) found
 
 -- ---- targets
 
-only_changed : (program : TypedProgram) (state : State) (t : TypedTarget) (value : Value) (after : State)
+only_changed : (program : LinkedProgram) (state : State) (t : TypedTarget) (value : Value) (after : State)
     → IsChanged program state t value after → assigned program state (t, value) ≡ after
 unfolding assigned
 only_changed program state t value after (IsChanged.variable number v) = refl
 only_changed program state t value after (IsChanged.field set field v) = refl
 
-all_only_changed : (program : TypedProgram) (ts : List TypedTarget) (values : List Value) (before after : State)
+all_only_changed : (program : LinkedProgram) (ts : List TypedTarget) (values : List Value) (before after : State)
     → AreChanged program ts values before after → spec.all_assigned program before (zip ts values) ≡ after
 all_only_changed program ts values before after (AreChanged.no_target vs here) = refl
 all_only_changed program ts values before after (AreChanged.no_value_left u us here) = refl
@@ -72,7 +72,7 @@ too_few turns left below one = omega arith
 itself : (turns : ℕ) → turns ≤ turns
 itself turns = omega arith
 
-by_form : (program : TypedProgram) (s : MainStmt) (f : Runs) (state : State) (outcome : Result State Stop)
+by_form : (program : LinkedProgram) (s : MainStmt) (f : Runs) (state : State) (outcome : Result State Stop)
     → runs_of program s ≡ f → f state ≡ outcome → runs_of program s state ≡ outcome
 by_form program s f state outcome form is = ap (λ g. g state) form ∙ is
 
@@ -94,7 +94,7 @@ going_on bound local from to body state less =
 mutual
   unfolding assignment while_held counted chosen asserted
 
-  only_statement : (program : TypedProgram) (s : MainStmt) (before : State) (outcome : Result State Stop)
+  only_statement : (program : LinkedProgram) (s : MainStmt) (before : State) (outcome : Result State Stop)
       → RunsTo program s before outcome → runs_of program s before ≡ outcome
   only_statement program s before outcome (RunsTo.variables line numbers r values state after yields changed) =
       by_form program _ _ state _ (var_is program line numbers r)
@@ -146,7 +146,7 @@ mutual
       by_form program _ _ state _ (assertion_is program line cond) (ap (λ m. at line m >>= λ held. if held then Ok state else at line (Err Assertion)) held)
 
   -- one more than the turns that are left, or more than that
-  only_repeated : (program : TypedProgram) (line : ℕ) (cond : TypedCond) (body : List MainStmt) (before : State) (outcome : Result State Stop)
+  only_repeated : (program : LinkedProgram) (line : ℕ) (cond : TypedCond) (body : List MainStmt) (before : State) (outcome : Result State Stop)
       → Repeats program line cond body before outcome → (bound : ℕ) → before.turns ≤ bound
       → spec.while_up_to (suc bound) (spec.test program line cond) (map (runs_of program) body) before ≡ outcome
   only_repeated program line cond body before outcome (Repeats.while_traps l c b kind state held) bound enough =
@@ -169,7 +169,7 @@ mutual
       (only_repeated program l c b between end others bound
       (few_left state.turns bound left between.turns enough one (list_turns program b (spec.with_turns state left) (Ok between) runs)))
 
-  only_counted : (program : TypedProgram) (local to : ℕ) (body : List MainStmt) (from : ℕ) (before : State) (outcome : Result State Stop)
+  only_counted : (program : LinkedProgram) (local to : ℕ) (body : List MainStmt) (from : ℕ) (before : State) (outcome : Result State Stop)
       → Counts program local to body from before outcome → (bound : ℕ) → before.turns ≤ bound
       → spec.count_up_to (suc bound) local from to (map (runs_of program) body) before ≡ outcome
   only_counted program local to body from before outcome (Counts.for_ends i n b here state less) bound enough =
@@ -191,7 +191,7 @@ mutual
       (only_counted program i n b (add here 1) between end others bound
       (few_left state.turns bound left between.turns enough one (list_turns program b _ (Ok between) runs)))
 
-  only_list : (program : TypedProgram) (body : List MainStmt) (before : State) (outcome : Result State Stop)
+  only_list : (program : LinkedProgram) (body : List MainStmt) (before : State) (outcome : Result State Stop)
       → AllRunTo program body before outcome → in_order (map (runs_of program) body) before ≡ outcome
   only_list program body before outcome (AllRunTo.none here) = refl
   only_list program body before outcome (AllRunTo.first_stops s rest stop here first) =
@@ -207,6 +207,6 @@ statement_only = only_statement
 pub program_only : AnswersOnly
 unfolding run
 program_only program sets turns outcome (RunsProgram.ended after runs) =
-    ap (λ o. o >>= λ state. Ok state.sets) (only_list program program.body (at_first program sets turns) (Ok after) runs)
+    ap (λ o. o >>= λ state. Ok state.sets) (only_list program program.typed.body (at_first program sets turns) (Ok after) runs)
 program_only program sets turns outcome (RunsProgram.stopped stop runs) =
-    ap (λ o. o >>= λ state. Ok state.sets) (only_list program program.body (at_first program sets turns) (Err stop) runs)
+    ap (λ o. o >>= λ state. Ok state.sets) (only_list program program.typed.body (at_first program sets turns) (Err stop) runs)

@@ -11,7 +11,7 @@ use Rattle.typed_tree.specs.declared.condition.TypedCond.{TypedCond}
 use Rattle.typed_tree.specs.declared.main_procedure.MainStmt.{MainStmt}
 use Rattle.typed_tree.specs.declared.main_procedure.TypedTarget.{TypedTarget}
 use Rattle.typed_tree.specs.declared.program.TypedField.{TypedField}
-use Rattle.typed_tree.specs.declared.program.TypedProgram.{TypedProgram}
+use Rattle.algebra_meaning.specs.Linked.{LinkedProgram}
 use Rattle.value_algebra.specs.declared.value.Value.{Value}
 use Rattle.value_algebra.specs.Fields.{block_of, column_words, first_column, with_columns, with_field}
 use Rattle.algebra_meaning.specs.Expression.{set_fields}
@@ -51,14 +51,14 @@ leaves_on : (before between : State) (outcome : Result State Stop) → shapes_in
 leaves_on before between (Ok after) first others = others ∙ first
 leaves_on before between (Err stop) first others = others
 
-changed_leaves : (program : TypedProgram) (before : State) (t : TypedTarget) (value : Value) (after : State)
+changed_leaves : (program : LinkedProgram) (before : State) (t : TypedTarget) (value : Value) (after : State)
     → IsChanged program before t value after → shapes_in after ≡ shapes_in before
 changed_leaves program before t value after (IsChanged.variable number v) = refl
 changed_leaves program before t value after (IsChanged.field set field v) =
-    map-set_same shape_of before.sets set (with_field (set_fields program set) (set_at before.sets set) field v.words) empty_set
-    (field_shape (set_fields program set) (set_at before.sets set) field v.words)
+    map-set_same shape_of before.sets set (with_field (set_fields program.typed set) (set_at before.sets set) field v.words) empty_set
+    (field_shape (set_fields program.typed set) (set_at before.sets set) field v.words)
 
-all_changed_leaves : (program : TypedProgram) (ts : List TypedTarget) (values : List Value) (before after : State)
+all_changed_leaves : (program : LinkedProgram) (ts : List TypedTarget) (values : List Value) (before after : State)
     → AreChanged program ts values before after → shapes_in after ≡ shapes_in before
 all_changed_leaves program ts values before after (AreChanged.no_target vs here) = refl
 all_changed_leaves program ts values before after (AreChanged.no_value_left u us here) = refl
@@ -68,7 +68,7 @@ all_changed_leaves program ts values before after (AreChanged.one_more u us v vs
 -- ---- statements
 
 mutual
-  statement_leaves : (program : TypedProgram) (s : MainStmt) (before : State) (outcome : Result State Stop)
+  statement_leaves : (program : LinkedProgram) (s : MainStmt) (before : State) (outcome : Result State Stop)
       → RunsTo program s before outcome → Leaves before outcome
   statement_leaves program s before outcome (RunsTo.variables line numbers r values state after yields changed) =
       all_changed_leaves program _ values state after changed
@@ -88,7 +88,7 @@ mutual
   statement_leaves program s before outcome (RunsTo.assertion_fails line cond state held) = tt
   statement_leaves program s before outcome (RunsTo.assertion_traps line cond kind state held) = tt
 
-  repeated_leaves : (program : TypedProgram) (line : ℕ) (cond : TypedCond) (body : List MainStmt) (before : State) (outcome : Result State Stop)
+  repeated_leaves : (program : LinkedProgram) (line : ℕ) (cond : TypedCond) (body : List MainStmt) (before : State) (outcome : Result State Stop)
       → Repeats program line cond body before outcome → Leaves before outcome
   repeated_leaves program line cond body before outcome (Repeats.while_traps l c b kind state held) = tt
   repeated_leaves program line cond body before outcome (Repeats.while_ends l c b state held) = refl
@@ -97,7 +97,7 @@ mutual
   repeated_leaves program line cond body before outcome (Repeats.while_goes_on l c b left state between end held one runs others) =
       leaves_on state between end (list_leaves program b _ (Ok between) runs) (repeated_leaves program l c b between end others)
 
-  counted_leaves : (program : TypedProgram) (local to : ℕ) (body : List MainStmt) (from : ℕ) (before : State) (outcome : Result State Stop)
+  counted_leaves : (program : LinkedProgram) (local to : ℕ) (body : List MainStmt) (from : ℕ) (before : State) (outcome : Result State Stop)
       → Counts program local to body from before outcome → Leaves before outcome
   counted_leaves program local to body from before outcome (Counts.for_ends i n b here state less) = refl
   counted_leaves program local to body from before outcome (Counts.for_spent i n b here state less none) = tt
@@ -105,7 +105,7 @@ mutual
   counted_leaves program local to body from before outcome (Counts.for_goes_on i n b here left state between end less one runs others) =
       leaves_on state between end (list_leaves program b _ (Ok between) runs) (counted_leaves program i n b _ between end others)
 
-  list_leaves : (program : TypedProgram) (body : List MainStmt) (before : State) (outcome : Result State Stop)
+  list_leaves : (program : LinkedProgram) (body : List MainStmt) (before : State) (outcome : Result State Stop)
       → AllRunTo program body before outcome → Leaves before outcome
   list_leaves program body before outcome (AllRunTo.none here) = refl
   list_leaves program body before outcome (AllRunTo.first_stops s rest stop here first) = tt
@@ -118,9 +118,9 @@ abbrev LeavesAll : List SetValue → Result (List SetValue) Stop → Type 0
 LeavesAll sets (Ok after) = map shape_of after ≡ map shape_of sets
 LeavesAll sets (Err stop) = Unit {0}
 
-program_leaves : (program : TypedProgram) (sets : List SetValue) (turns : ℕ) (outcome : Result (List SetValue) Stop)
+program_leaves : (program : LinkedProgram) (sets : List SetValue) (turns : ℕ) (outcome : Result (List SetValue) Stop)
     → RunsProgram program sets turns outcome → LeavesAll sets outcome
-program_leaves program sets turns outcome (RunsProgram.ended after runs) = list_leaves program program.body _ (Ok after) runs
+program_leaves program sets turns outcome (RunsProgram.ended after runs) = list_leaves program program.typed.body _ (Ok after) runs
 program_leaves program sets turns outcome (RunsProgram.stopped stop runs) = tt
 
 pub leaves_shapes : LeavesShapes

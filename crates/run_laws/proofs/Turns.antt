@@ -4,7 +4,7 @@ use native.Mathlib.Omega.{arith}
 use Rattle.typed_tree.specs.declared.condition.TypedCond.{TypedCond}
 use Rattle.typed_tree.specs.declared.main_procedure.MainStmt.{MainStmt}
 use Rattle.typed_tree.specs.declared.main_procedure.TypedTarget.{TypedTarget}
-use Rattle.typed_tree.specs.declared.program.TypedProgram.{TypedProgram}
+use Rattle.algebra_meaning.specs.Linked.{LinkedProgram}
 use Rattle.value_algebra.specs.declared.value.Value.{Value}
 use Rattle.algebra_meaning.specs.declared.state.State.{State}
 use Rattle.algebra_meaning.specs.declared.stopped.Stop.{Stop}
@@ -28,12 +28,12 @@ turns_on : (few turns : ℕ) (outcome : Result State Stop) → few ≤ turns →
 turns_on few turns (Ok after) fewer left = in_turn after.turns few turns left fewer
 turns_on few turns (Err stop) fewer left = left
 
-changed_turns : (program : TypedProgram) (before : State) (t : TypedTarget) (value : Value) (after : State)
+changed_turns : (program : LinkedProgram) (before : State) (t : TypedTarget) (value : Value) (after : State)
     → IsChanged program before t value after → after.turns ≡ before.turns
 changed_turns program before t value after (IsChanged.variable number v) = refl
 changed_turns program before t value after (IsChanged.field set field v) = refl
 
-all_changed_turns : (program : TypedProgram) (ts : List TypedTarget) (values : List Value) (before after : State)
+all_changed_turns : (program : LinkedProgram) (ts : List TypedTarget) (values : List Value) (before after : State)
     → AreChanged program ts values before after → after.turns ≡ before.turns
 all_changed_turns program ts values before after (AreChanged.no_target vs here) = refl
 all_changed_turns program ts values before after (AreChanged.no_value_left u us here) = refl
@@ -41,7 +41,7 @@ all_changed_turns program ts values before after (AreChanged.one_more u us v vs 
     all_changed_turns program us vs between last others ∙ changed_turns program first u v between one
 
 mutual
-  pub statement_turns : (program : TypedProgram) (s : MainStmt) (before : State) (outcome : Result State Stop)
+  pub statement_turns : (program : LinkedProgram) (s : MainStmt) (before : State) (outcome : Result State Stop)
       → RunsTo program s before outcome → NoMoreTurns before.turns outcome
   statement_turns program s before outcome (RunsTo.variables line numbers r values state after yields changed) =
       same after.turns state.turns (all_changed_turns program _ values state after changed)
@@ -61,7 +61,7 @@ mutual
   statement_turns program s before outcome (RunsTo.assertion_fails line cond state held) = tt
   statement_turns program s before outcome (RunsTo.assertion_traps line cond kind state held) = tt
 
-  repeated_turns : (program : TypedProgram) (line : ℕ) (cond : TypedCond) (body : List MainStmt) (before : State) (outcome : Result State Stop)
+  repeated_turns : (program : LinkedProgram) (line : ℕ) (cond : TypedCond) (body : List MainStmt) (before : State) (outcome : Result State Stop)
       → Repeats program line cond body before outcome → NoMoreTurns before.turns outcome
   repeated_turns program line cond body before outcome (Repeats.while_traps l c b kind state held) = tt
   repeated_turns program line cond body before outcome (Repeats.while_ends l c b state held) = same state.turns state.turns refl
@@ -71,7 +71,7 @@ mutual
       turns_on between.turns state.turns end (one_spent between.turns left state.turns (list_turns program b _ (Ok between) runs) one)
       (repeated_turns program l c b between end others)
 
-  counted_turns : (program : TypedProgram) (local to : ℕ) (body : List MainStmt) (from : ℕ) (before : State) (outcome : Result State Stop)
+  counted_turns : (program : LinkedProgram) (local to : ℕ) (body : List MainStmt) (from : ℕ) (before : State) (outcome : Result State Stop)
       → Counts program local to body from before outcome → NoMoreTurns before.turns outcome
   counted_turns program local to body from before outcome (Counts.for_ends i n b here state less) = same state.turns state.turns refl
   counted_turns program local to body from before outcome (Counts.for_spent i n b here state less none) = tt
@@ -80,7 +80,7 @@ mutual
       turns_on between.turns state.turns end (one_spent between.turns left state.turns (list_turns program b _ (Ok between) runs) one)
       (counted_turns program i n b _ between end others)
 
-  pub list_turns : (program : TypedProgram) (body : List MainStmt) (before : State) (outcome : Result State Stop)
+  pub list_turns : (program : LinkedProgram) (body : List MainStmt) (before : State) (outcome : Result State Stop)
       → AllRunTo program body before outcome → NoMoreTurns before.turns outcome
   list_turns program body before outcome (AllRunTo.none here) = same here.turns here.turns refl
   list_turns program body before outcome (AllRunTo.first_stops s rest stop here first) = tt

@@ -6,13 +6,13 @@ use Rattle.ring_words.specs.declared.trap.TrapKind.{TrapKind}
 use Rattle.hypergraph.specs.SetValue.{SetValue}
 use Rattle.hypergraph.specs.Sets.{set_at}
 use Rattle.typed_tree.specs.declared.function.TypedFunction.{TypedFunction}
-use Rattle.typed_tree.specs.declared.program.TypedProgram.{TypedProgram}
+use Rattle.algebra_meaning.specs.Linked.{LinkedProgram}
 use Rattle.value_algebra.specs.declared.value.Value.{Value}
 use Rattle.algebra_meaning.specs.Assembled.{all_assembled, contributions_at}
 use Rattle.algebra_meaning.specs.declared.contribution.Contribution.{Contribution}
 use Rattle.algebra_meaning.specs.declared.stopped.Trapped.{Trapped}
 
-pub data MapsTo (program : TypedProgram) (sets : List SetValue) (set : ℕ) (function : TypedFunction) (args : List Value) : Result (List Value) Trapped → Type 0 where
+pub data MapsTo (program : LinkedProgram) (sets : List SetValue) (set : ℕ) (function : TypedFunction) (args : List Value) : Result (List Value) Trapped → Type 0 where
   -- each element contributes: what all contribute, in the order of the elements, is assembled
   all_contribute : (contributed : ℕ → List Contribution)
       → ((element : ℕ) → element < (set_at sets set).count → contributions_at program sets set function args element ≡ Ok (contributed element))

@@ -15,7 +15,7 @@ use Rattle.typed_tree.specs.declared.main_procedure.TypedRight.{TypedRight}
 use Rattle.typed_tree.specs.declared.main_procedure.TypedRight.TheVariants as right
 use Rattle.typed_tree.specs.declared.main_procedure.TypedTarget.{TypedTarget}
 use Rattle.typed_tree.specs.declared.main_procedure.TypedTarget.TheVariants as target
-use Rattle.typed_tree.specs.declared.program.TypedProgram.{TypedProgram}
+use Rattle.algebra_meaning.specs.Linked.{LinkedProgram}
 use Rattle.value_algebra.specs.declared.value.Value.{Value}
 use Rattle.value_algebra.specs.Value.{number, word_of}
 use Rattle.value_algebra.specs.Fields.{with_field}
@@ -28,13 +28,13 @@ use Rattle.algebra_meaning.specs.declared.stopped.Trapped.{Trapped}
 use Rattle.run_laws.specs.Maps.{MapsTo}
 
 -- what the names of an expression stand for in a state
-abbrev pub names_in : TypedProgram → State → Scope
+abbrev pub names_in : LinkedProgram → State → Scope
 names_in program state = record { program = program; sets = state.sets; variables = state.variables; locals = state.locals; place = None }
 
 -- ---- right sides
 
 -- the values of a right side, or why the statement stops: always by a trap at its line, which names an element only where a map's does
-pub data Yields (program : TypedProgram) (line : ℕ) (before : State) : TypedRight → Result (List Value) Stop → Type 0 where
+pub data Yields (program : LinkedProgram) (line : ℕ) (before : State) : TypedRight → Result (List Value) Stop → Type 0 where
   -- one value, or the trap of the expression
   value : (e : TypedExpr) (v : Value) → meaning (names_in program before) e ≡ Ok v
       → Yields program line before (right.Value e) (Ok (v ∷ []))
@@ -42,33 +42,33 @@ pub data Yields (program : TypedProgram) (line : ℕ) (before : State) : TypedRi
       → Yields program line before (right.Value e) (Err (Trap line None kind))
   -- a map evaluates its arguments once, before any element: the results, or the trap of an argument, or of an element
   results : (f set : ℕ) (args : List TypedExpr) (values : List Value) (function : TypedFunction) (results : List Value)
-      → meanings (names_in program before) args ≡ Ok values → slice_get program.functions f ≡ Some function
+      → meanings (names_in program before) args ≡ Ok values → slice_get program.typed.functions f ≡ Some function
       → MapsTo program before.sets set function values (Ok results)
       → Yields program line before (right.Map f set args) (Ok results)
   argument_traps : (f set : ℕ) (args : List TypedExpr) (kind : TrapKind) → meanings (names_in program before) args ≡ Err kind
       → Yields program line before (right.Map f set args) (Err (Trap line None kind))
   element_traps : (f set : ℕ) (args : List TypedExpr) (values : List Value) (function : TypedFunction) (trapped : Trapped)
-      → meanings (names_in program before) args ≡ Ok values → slice_get program.functions f ≡ Some function
+      → meanings (names_in program before) args ≡ Ok values → slice_get program.typed.functions f ≡ Some function
       → MapsTo program before.sets set function values (Err trapped)
       → Yields program line before (right.Map f set args) (Err (Trap line (Some trapped.element) trapped.kind))
   -- a function that isn't there has no results: the rules of types let none be named
   no_function : (f set : ℕ) (args : List TypedExpr) (values : List Value)
-      → meanings (names_in program before) args ≡ Ok values → slice_get program.functions f ≡ None
+      → meanings (names_in program before) args ≡ Ok values → slice_get program.typed.functions f ≡ None
       → Yields program line before (right.Map f set args) (Ok [])
 
 -- ---- targets
 
 -- a whole target gets a value, and nothing else changes
-pub data IsChanged (program : TypedProgram) (before : State) : TypedTarget → Value → State → Type 0 where
+pub data IsChanged (program : LinkedProgram) (before : State) : TypedTarget → Value → State → Type 0 where
   variable : (variable : ℕ) (value : Value)
       → IsChanged program before (target.Variable variable) value (record before { variables = slice_set before.variables variable value })
   field : (set field : ℕ) (value : Value)
       → IsChanged program before (target.Field set field) value
-      (record before { sets = slice_set before.sets set (with_field (set_fields program set) (set_at before.sets set) field value.words) })
+      (record before { sets = slice_set before.sets set (with_field (set_fields program.typed set) (set_at before.sets set) field value.words) })
 
 -- targets change from left to right, each to its own value; where there are more of the one than of the other, which the rules of types
 -- refuse, the rest is left
-pub data AreChanged (program : TypedProgram) : List TypedTarget → List Value → State → State → Type 0 where
+pub data AreChanged (program : LinkedProgram) : List TypedTarget → List Value → State → State → Type 0 where
   no_target : (values : List Value) (here : State) → AreChanged program [] values here here
   no_value_left : (t : TypedTarget) (ts : List TypedTarget) (here : State) → AreChanged program (t ∷ ts) [] here here
   one_more : (t : TypedTarget) (ts : List TypedTarget) (value : Value) (values : List Value) (before between after : State)
@@ -79,7 +79,7 @@ pub data AreChanged (program : TypedProgram) : List TypedTarget → List Value �
 
 mutual
   -- the outcome of a statement
-  pub data RunsTo (program : TypedProgram) : MainStmt → State → Result State Stop → Type 0 where
+  pub data RunsTo (program : LinkedProgram) : MainStmt → State → Result State Stop → Type 0 where
     -- the whole right side is evaluated before a target changes
     variables : (line : ℕ) (numbers : List ℕ) (r : TypedRight) (values : List Value) (before after : State)
         → Yields program line before r (Ok values) → AreChanged program (map target.Variable numbers) values before after
@@ -123,7 +123,7 @@ mutual
         → RunsTo program (stmt.Assert line cond) before (Err (Trap line None kind))
 
   -- the outcome of a `while` from a state on: the condition is evaluated before each turn
-  pub data Repeats (program : TypedProgram) : ℕ → TypedCond → List MainStmt → State → Result State Stop → Type 0 where
+  pub data Repeats (program : LinkedProgram) : ℕ → TypedCond → List MainStmt → State → Result State Stop → Type 0 where
     while_traps : (line : ℕ) (cond : TypedCond) (body : List MainStmt) (kind : TrapKind) (before : State)
         → holds (names_in program before) cond ≡ Err kind
         → Repeats program line cond body before (Err (Trap line None kind))
@@ -146,7 +146,7 @@ mutual
         → Repeats program line cond body before outcome
 
   -- the outcome of a `for` from a state and a value of its variable on, up to below another value: both words by their signed readings
-  pub data Counts (program : TypedProgram) : ℕ → ℕ → List MainStmt → ℕ → State → Result State Stop → Type 0 where
+  pub data Counts (program : LinkedProgram) : ℕ → ℕ → List MainStmt → ℕ → State → Result State Stop → Type 0 where
     for_ends : (local to : ℕ) (body : List MainStmt) (from : ℕ) (before : State)
         → is_less from to ≡ false
         → Counts program local to body from before (Ok before)
@@ -167,7 +167,7 @@ mutual
         → Counts program local to body from before outcome
 
   -- the outcome of statements one after the other
-  pub data AllRunTo (program : TypedProgram) : List MainStmt → State → Result State Stop → Type 0 where
+  pub data AllRunTo (program : LinkedProgram) : List MainStmt → State → Result State Stop → Type 0 where
     none : (here : State) → AllRunTo program [] here (Ok here)
     first_stops : (s : MainStmt) (body : List MainStmt) (stop : Stop) (before : State)
         → RunsTo program s before (Err stop) → AllRunTo program (s ∷ body) before (Err stop)
@@ -178,12 +178,12 @@ mutual
 -- ---- programs
 
 -- before the first statement no variable has a value
-abbrev pub at_first : TypedProgram → List SetValue → ℕ → State
-at_first program sets turns = record { sets = sets; variables = replicate (length program.variables) no_value; locals = []; turns = turns }
+abbrev pub at_first : LinkedProgram → List SetValue → ℕ → State
+at_first program sets turns = record { sets = sets; variables = replicate (length program.typed.variables) no_value; locals = []; turns = turns }
 
 -- the outcome of a program: the sets after it, or why it stops
-pub data RunsProgram (program : TypedProgram) (sets : List SetValue) (turns : ℕ) : Result (List SetValue) Stop → Type 0 where
-  ended : (after : State) → AllRunTo program program.body (at_first program sets turns) (Ok after)
+pub data RunsProgram (program : LinkedProgram) (sets : List SetValue) (turns : ℕ) : Result (List SetValue) Stop → Type 0 where
+  ended : (after : State) → AllRunTo program program.typed.body (at_first program sets turns) (Ok after)
       → RunsProgram program sets turns (Ok after.sets)
-  stopped : (stop : Stop) → AllRunTo program program.body (at_first program sets turns) (Err stop)
+  stopped : (stop : Stop) → AllRunTo program program.typed.body (at_first program sets turns) (Err stop)
       → RunsProgram program sets turns (Err stop)

@@ -3,7 +3,7 @@ use Rattle.std.specs.Prelude.{◌≡◌, ℕ, List, length, map, Option, Ok}
 use Rattle.hypergraph.specs.SetValue.{SetValue}
 use Rattle.hypergraph.specs.Sets.{set_at}
 use Rattle.typed_tree.specs.declared.main_procedure.MainStmt.{MainStmt}
-use Rattle.typed_tree.specs.declared.program.TypedProgram.{TypedProgram}
+use Rattle.algebra_meaning.specs.Linked.{LinkedProgram}
 use Rattle.algebra_meaning.specs.Run.{run}
 use Rattle.algebra_meaning.specs.declared.state.State.{State}
 use Rattle.run_laws.specs.Runs.{RunsTo}
@@ -34,12 +34,12 @@ pub record DifferInWords (before after : List SetValue) : Type 0 where
 
 -- a run that ends leaves the shapes of all sets
 abbrev pub LeavesShapes : Type 0
-LeavesShapes = (program : TypedProgram) (sets after : List SetValue) (turns : ℕ) → run program sets turns ≡ Ok after → map shape_of after ≡ map shape_of sets
+LeavesShapes = (program : LinkedProgram) (sets after : List SetValue) (turns : ℕ) → run program sets turns ≡ Ok after → map shape_of after ≡ map shape_of sets
 
 -- the same of each set by its number
 abbrev pub ChangesWords : Type 0
-ChangesWords = (program : TypedProgram) (sets after : List SetValue) (turns : ℕ) → run program sets turns ≡ Ok after → DifferInWords sets after
+ChangesWords = (program : LinkedProgram) (sets after : List SetValue) (turns : ℕ) → run program sets turns ≡ Ok after → DifferInWords sets after
 
 -- the same of a statement that ends
 abbrev pub StatementsChangeWords : Type 0
-StatementsChangeWords = (program : TypedProgram) (s : MainStmt) (before after : State) → RunsTo program s before (Ok after) → DifferInWords before.sets after.sets
+StatementsChangeWords = (program : LinkedProgram) (s : MainStmt) (before after : State) → RunsTo program s before (Ok after) → DifferInWords before.sets after.sets

@@ -16,7 +16,7 @@ use Rattle.typed_tree.specs.declared.function.TypedFunction.{TypedFunction}
 use Rattle.typed_tree.specs.declared.main_procedure.TypedRight.{TypedRight}
 use Rattle.typed_tree.specs.declared.main_procedure.TypedTarget.{TypedTarget}
 use Rattle.typed_tree.specs.declared.main_procedure.TypedTarget.TheVariants as target
-use Rattle.typed_tree.specs.declared.program.TypedProgram.{TypedProgram}
+use Rattle.algebra_meaning.specs.Linked.{LinkedProgram}
 use Rattle.typed_tree.specs.declared.program.Variable.{Variable}
 use Rattle.typed_tree.specs.Expressions.{type_of}
 use Rattle.typed_tree.specs.MainProcedure.{is_system_matrix, result_type, with_variable}
@@ -40,7 +40,7 @@ AreProper functions = (f : ℕ) (function : TypedFunction) → slice_get functio
 
 -- ---- right sides
 
-map_fits : (program : TypedProgram) (sets : List SetValue) (set : ℕ) (function : TypedFunction) (args values : List Value) → Each IsProper function.results
+map_fits : (program : LinkedProgram) (sets : List SetValue) (set : ℕ) (function : TypedFunction) (args values : List Value) → Each IsProper function.results
     → MapsTo program sets set function args (Ok values) → Matched (Fits sets) (map result_type function.results) values
 map_fits program sets set function args values proper (MapsTo.all_contribute contributed all) =
     results_fit sets (flat_map contributed (range_with_len 0 (set_at sets set).count)) 0 function.results proper
@@ -48,7 +48,7 @@ map_fits program sets set function args values proper (MapsTo.all_contribute con
 pub no_function : (function : TypedFunction) → None ≡ Some function → ⊥
 no_function function is = cc
 
-module _ (sized : AreSized) (program : TypedProgram) (proper : AreProper program.functions) where
+module _ (sized : AreSized) (program : LinkedProgram) (proper : AreProper program.typed.functions) where
   pub right_fits : (env : Environment) (depth : ℕ) (state : State) (line : ℕ) (r : Right) (side : TypedRight) (types : List NodeType) (from to : ℕ) (values : List Value)
       → Known program state.sets env depth state.variables state.locals → IsRightTyping env r side types from to → Yields program line state side (Ok values)
       → Matched (Fits state.sets) types values
@@ -85,22 +85,22 @@ type_within vars n t is = by_found (slice_get vars n) refl is
 in_room : (n a b c : ℕ) → n < a → a ≤ b → c ≡ b → n < c
 in_room n a b c below few all = omega (arith, below, few, all)
 
-module _ (sums : SumsAreSized) (program : TypedProgram) (sets : List SetValue) where
+module _ (sums : SumsAreSized) (program : LinkedProgram) (sets : List SetValue) where
   target_known : (env : Environment) (depth : ℕ) (t : Target) (type : NodeType) (u : TypedTarget) (value : Value) (before after : State)
-      → length env.declarations.variables ≤ length program.variables
+      → length env.declarations.variables ≤ length program.typed.variables
       → IsTarget env t type u → IsChanged program before u value after → Fits sets type value → Known program sets env depth before.variables before.locals
       → Known program sets env depth after.variables after.locals
   target_known env depth t type u value before after few (IsTarget.variable t' number own given same none means no_system rule) (IsChanged.variable n v) fits known =
       let typed = (known.of_variables t'.name number own means).0 in
       let sizes = sums sets own given same rule in
       known_set program sets env depth before.variables before.locals number own v known typed
-      (in_room number (length env.declarations.variables) (length program.variables) (length before.variables)
+      (in_room number (length env.declarations.variables) (length program.typed.variables) (length before.variables)
       (type_within env.declarations.variables number own typed) few known.count)
       (record { whole = fits.whole; rows = fits.rows ∙ sym sizes.0; columns = fits.columns ∙ sym sizes.1; blocks = no_matrix own no_system })
   target_known env depth t type u value before after few (IsTarget.field t' name set number f given same is means has rule) (IsChanged.field s k v) fits known = known
 
   pub targets_known : (env : Environment) (depth : ℕ) (ts : List Target) (types : List NodeType) (us : List TypedTarget) (values : List Value) (before after : State)
-      → length env.declarations.variables ≤ length program.variables
+      → length env.declarations.variables ≤ length program.typed.variables
       → AreTargets env ts types us → AreChanged program us values before after → Matched (Fits sets) types values
       → Known program sets env depth before.variables before.locals → Known program sets env depth after.variables after.locals
   targets_known env depth ts types us values before after few AreTargets.none (AreChanged.no_target vs here) fit known = known
@@ -113,7 +113,7 @@ module _ (sums : SumsAreSized) (program : TypedProgram) (sets : List SetValue) w
   -- ---- new variables
 
   pub declared_known : (names : List Name) (types : List NodeType) (numbers : List ℕ) (walk end : Walk) (values : List Value) (before after : State)
-      → length end.environment.declarations.variables ≤ length program.variables
+      → length end.environment.declarations.variables ≤ length program.typed.variables
       → AreDeclared names types numbers walk end → AreChanged program (map target.Variable numbers) values before after → Matched (Fits sets) types values
       → Known program sets walk.environment walk.locals before.variables before.locals → Known program sets end.environment end.locals after.variables after.locals
   declared_known names types numbers walk end values before after few (AreDeclared.none here) (AreChanged.no_target vs state) fit known = known
@@ -123,11 +123,11 @@ module _ (sums : SumsAreSized) (program : TypedProgram) (sets : List SetValue) w
       (AreChanged.one_more u us v vs first between ended changed goes) (Matched.one_more type' types' v' vs' fits fit) known =
       let next = with_variable here name type in
       let grows = declared_grows rest others more next last declared in
-      let fewer = in_turn (length next.environment.declarations.variables) (length last.environment.declarations.variables) (length program.variables) grows.count few in
+      let fewer = in_turn (length next.environment.declarations.variables) (length last.environment.declarations.variables) (length program.typed.variables) grows.count few in
       declared_known rest others more next last vs between ended few declared goes fit (set_known here name type first between v fewer fits changed known)
     where
       set_known : (here : Walk) (name : Name) (type : NodeType) (first between : State) (v : Value)
-          → length (with_variable here name type).environment.declarations.variables ≤ length program.variables → Fits sets type v
+          → length (with_variable here name type).environment.declarations.variables ≤ length program.typed.variables → Fits sets type v
           → IsChanged program first (target.Variable (length here.environment.declarations.variables)) v between
           → Known program sets here.environment here.locals first.variables first.locals
           → Known program sets (with_variable here name type).environment (with_variable here name type).locals between.variables between.locals

@@ -2,6 +2,7 @@
 use Rattle.std.proofs.Common.{◌≡◌, ◌⊎◌, ℕ, suc, ◌≤◌, List, length, Some, None, refl, sym, ◌∙◌, subst, inl, inr, arith}
 use Rattle.std.specs.Prelude.{slice_get}
 use Rattle.std.proofs.lemmas.List.{length-replicate}
+use Rattle.host_table.specs.declared.table.HostName.{HostName}
 use Rattle.hypergraph.specs.SetValue.{SetValue}
 use Rattle.sim_syntax.specs.declared.declaration.Decl.{Decl}
 use Rattle.sim_syntax.specs.declared.declaration.Param.{Param}
@@ -29,6 +30,7 @@ use Rattle.typing_laws.specs.Programs as programs
 use Rattle.typing_laws.specs.Programs.{before_main, program_with}
 use Rattle.typing_laws.specs.ResultSides.{AreTypedResults, IsTypedResult}
 use Rattle.typing_laws.specs.Scopes.{leaving}
+use Rattle.algebra_meaning.specs.Linked.{Answer, linked}
 use Rattle.index_laws.specs.Sizes.{IsOfMain}
 use Rattle.run_laws.specs.Runs as runs
 use Rattle.run_sizes.proofs.Assigned.{AreProper, no_function}
@@ -106,6 +108,7 @@ abbrev IsDeclared : Meaning → Type 0
 IsDeclared (meaning.Element n) = Unit {0}
 IsDeclared (meaning.Set n) = Unit {0}
 IsDeclared (meaning.Function n) = Unit {0}
+IsDeclared (meaning.Host host) = Unit {0}
 IsDeclared other = ⊥
 
 record Before (walk : Walk) : Type 0 where
@@ -130,12 +133,12 @@ and_proper : (functions : List TypedFunction) (function : TypedFunction) → Are
 and_proper functions function all one f g (inl same) = subst (λ h. Each IsProper h.results) same one
 and_proper functions function all one f g (inr at) = all f g at
 
-declaration_before : (d : Decl) (walk after : Walk) → IsDeclaration d walk after → Before walk → Before after
-declaration_before d walk after (IsDeclaration.element_type line name fields typed here are few new) before =
+declaration_before : (hosts : List HostName) (d : Decl) (walk after : Walk) → IsDeclaration hosts d walk after → Before walk → Before after
+declaration_before hosts d walk after (IsDeclaration.element_type line name fields typed here are few new) before =
     one_named here (and_element here.environment.declarations (record { fields = typed })) name _ tt before before.proper
-declaration_before d walk after (IsDeclaration.new_set line name element_name ends element over here means lie few has room new) before =
+declaration_before hosts d walk after (IsDeclaration.new_set line name element_name ends element over here means lie few has room new) before =
     one_named here (and_set here.environment.declarations (record { name = name; shape = record { element = element; over = over; arity = length ends } })) name _ tt before before.proper
-declaration_before d walk after
+declaration_before hosts d walk after
     (IsDeclaration.new_function line name params results body types signature result_types done typed here named begun end parameters are made sides is few_arguments few_results cheap new) before =
     let same : end.environment.declarations ≡ here.environment.declarations =
     function_keeps body done begun end made ∙ results_keep 0 results result_types named begun are ∙ parameters_keep params types here named parameters in
@@ -145,17 +148,19 @@ declaration_before d walk after
     one_named (leaving here end) (and_function end.environment.declarations function) name _ tt
     (record { names = before.names; locals = before.locals; proper = all })
     (λ f g at. and_proper end.environment.declarations.functions function all one f g (get_grown end.environment.declarations.functions function g f at))
+declaration_before hosts d walk after (IsDeclaration.host_function line name args result number host scales scale here is_host arity are whole new) before =
+    one_named here here.environment.declarations name (meaning.Host (record { number = number; arguments = scales; scale = scale })) tt before before.proper
 
-declarations_before : (ds : List Decl) (walk after : Walk) → AreDeclarations ds walk after → Before walk → Before after
-declarations_before ds walk after (AreDeclarations.none here) before = before
-declarations_before ds walk after (AreDeclarations.one_more d rest here between end one others) before =
-    declarations_before rest between end others (declaration_before d here between one before)
+declarations_before : (hosts : List HostName) (ds : List Decl) (walk after : Walk) → AreDeclarations hosts ds walk after → Before walk → Before after
+declarations_before hosts ds walk after (AreDeclarations.none here) before = before
+declarations_before hosts ds walk after (AreDeclarations.one_more d rest here between end one others) before =
+    declarations_before hosts rest between end others (declaration_before hosts d here between one before)
 
 nothing_known : (what : Meaning) → None ≡ Some what → ⊥
 nothing_known what is = cc
 
-all_before : (ds : List Decl) (after : Walk) → AreDeclarations ds programs.at_first after → Before after
-all_before ds after are = declarations_before ds programs.at_first after are
+all_before : (hosts : List HostName) (ds : List Decl) (after : Walk) → AreDeclarations hosts ds programs.at_first after → Before after
+all_before hosts ds after are = declarations_before hosts ds programs.at_first after are
     (record { names = λ name what at. absurd (nothing_known what at); locals = refl; proper = λ f function at. absurd (no_function function at) })
 
 -- ---- the main procedure
@@ -164,6 +169,7 @@ of_main : (what : Meaning) → IsDeclared what → IsOfMain what
 of_main (meaning.Element n) is = tt
 of_main (meaning.Set n) is = tt
 of_main (meaning.Function n) is = tt
+of_main (meaning.Host host) is = tt
 of_main (meaning.Parameter local scale) is = absurd is
 of_main (meaning.Own element) is = absurd is
 of_main (meaning.Ends element count) is = absurd is
@@ -178,11 +184,12 @@ none_deep : (n : ℕ) → n ≡ 0 → n ≤ 0
 none_deep n is = omega (arith, is)
 
 -- before the first statement of a program what is known holds, for no variable is known
-pub known_first : (ds : List Decl) (program : Program) (declared inner : Walk) (body : List MainStmt) (sets : List SetValue) (turns : ℕ) → AreDeclarations ds programs.at_first declared
+pub known_first : (hosts : List HostName) (answer : Answer) (ds : List Decl) (program : Program) (declared inner : Walk) (body : List MainStmt) (sets : List SetValue) (turns : ℕ) → AreDeclarations hosts ds programs.at_first declared
     → GoesOn (before_main declared) inner
-    → KnownIn (program_with program inner.environment.declarations body) (before_main declared) (runs.at_first (program_with program inner.environment.declarations body) sets turns)
-known_first ds program declared inner body sets turns are grows =
-    let before = all_before ds declared are in
+    → KnownIn (linked answer (program_with program inner.environment.declarations body)) (before_main declared)
+    (runs.at_first (linked answer (program_with program inner.environment.declarations body)) sets turns)
+known_first hosts answer ds program declared inner body sets turns are grows =
+    let before = all_before hosts ds declared are in
     record {
       level = refl;
       elements = sym grows.elements;
@@ -195,6 +202,6 @@ known_first ds program declared inner body sets turns are grows =
       count = length-replicate (length inner.environment.declarations.variables) _;
     }
 
-pub proper_functions : (ds : List Decl) (declared inner : Walk) → AreDeclarations ds programs.at_first declared → GoesOn (before_main declared) inner
+pub proper_functions : (hosts : List HostName) (ds : List Decl) (declared inner : Walk) → AreDeclarations hosts ds programs.at_first declared → GoesOn (before_main declared) inner
     → AreProper inner.environment.declarations.functions
-proper_functions ds declared inner are grows = subst AreProper (sym grows.functions) (all_before ds declared are).proper
+proper_functions hosts ds declared inner are grows = subst AreProper (sym grows.functions) (all_before hosts ds declared are).proper

@@ -17,7 +17,7 @@ use Rattle.typed_tree.specs.declared.expression.Referent.{Referent}
 use Rattle.typed_tree.specs.declared.expression.Referent.TheVariants as referent
 use Rattle.typed_tree.specs.declared.names.Meaning.{Meaning}
 use Rattle.typed_tree.specs.declared.names.Meaning.TheVariants as meaning
-use Rattle.typed_tree.specs.declared.program.TypedProgram.{TypedProgram}
+use Rattle.algebra_meaning.specs.Linked.{LinkedProgram}
 use Rattle.typed_tree.specs.declared.program.Variable.{Variable}
 use Rattle.typed_tree.specs.Expressions.{member_rule, name_rule, set_member, value_rule}
 use Rattle.typed_tree.specs.Lookups as lookups
@@ -45,32 +45,32 @@ answer E x = Ok x
 pub same_answer : {A E : Type 0} (x y : A) → answer E x ≡ answer E y → x ≡ y
 same_answer x y same = cc
 
-pub record Known (program : TypedProgram) (sets : List SetValue) (env : Environment) (depth : ℕ) (variables locals : List Value) : Type 0 where
+pub record Known (program : LinkedProgram) (sets : List SetValue) (env : Environment) (depth : ℕ) (variables locals : List Value) : Type 0 where
   pub level : env.level ≡ Main
-  pub elements : env.declarations.elements ≡ program.elements
-  pub sets_same : env.declarations.sets ≡ program.sets
-  pub functions : env.declarations.functions ≡ program.functions
+  pub elements : env.declarations.elements ≡ program.typed.elements
+  pub sets_same : env.declarations.sets ≡ program.typed.sets
+  pub functions : env.declarations.functions ≡ program.typed.functions
   pub of_main : (name : Name) (what : Meaning) → meaning_of env.names name ≡ Some what → IsOfMain what
   pub of_variables : (name : Name) (n : ℕ) (t : NodeType) → meaning_of env.names name ≡ Some (meaning.Variable n t)
       → (type_at env n ≡ Some t) × Fits sets t (value_at variables n)
   pub of_counters : (name : Name) (l : ℕ) → meaning_of env.names name ≡ Some (meaning.Counter l)
       → (l < depth) × Fits sets (Local Number 0) (value_at locals l)
   pub deep : depth ≤ length locals
-  pub count : length variables ≡ length program.variables
+  pub count : length variables ≡ length program.typed.variables
 
-abbrev pub KnownIn : TypedProgram → Walk → State → Type 0
+abbrev pub KnownIn : LinkedProgram → Walk → State → Type 0
 KnownIn program walk state = Known program state.sets walk.environment walk.locals state.variables state.locals
 
-pub is_main : (program : TypedProgram) (sets : List SetValue) (env : Environment) (depth : ℕ) (variables locals : List Value)
+pub is_main : (program : LinkedProgram) (sets : List SetValue) (env : Environment) (depth : ℕ) (variables locals : List Value)
     → Known program sets env depth variables locals → IsMain env
 is_main program sets env depth variables locals known = record { level = known.level; names = known.of_main }
 
 -- ---- names
 
-module _ (program : TypedProgram) (sets : List SetValue) (env : Environment) (depth : ℕ) (variables locals : List Value) (known : Known program sets env depth variables locals) where
-  same_fields : (set : ℕ) → lookups.fields_of env.declarations (lookups.element_in env.declarations set) ≡ set_fields program set
+module _ (program : LinkedProgram) (sets : List SetValue) (env : Environment) (depth : ℕ) (variables locals : List Value) (known : Known program sets env depth variables locals) where
+  same_fields : (set : ℕ) → lookups.fields_of env.declarations (lookups.element_in env.declarations set) ≡ set_fields program.typed set
   same_fields set =
-      ap (λ es. fields.fields_of es (fields.element_in env.declarations.sets set)) known.elements ∙ ap (λ s. fields.fields_of program.elements (fields.element_in s set)) known.sets_same
+      ap (λ es. fields.fields_of es (fields.element_in env.declarations.sets set)) known.elements ∙ ap (λ s. fields.fields_of program.typed.elements (fields.element_in s set)) known.sets_same
 
   value_fits : (name : Name) (what : Referent) (type : NodeType) (m : Option Meaning) → meaning_of env.names name ≡ m → value_rule m [] ≡ Ok (what, type)
       → Fits sets type (referred (record { program = program; sets = sets; variables = variables; locals = locals; place = None }) what [] [])
@@ -79,6 +79,7 @@ module _ (program : TypedProgram) (sets : List SetValue) (env : Environment) (de
   value_fits name what type (Some (meaning.Element n)) at is = absurd (cc)
   value_fits name what type (Some (meaning.Set n)) at is = absurd (cc)
   value_fits name what type (Some (meaning.Function n)) at is = absurd (cc)
+  value_fits name what type (Some (meaning.Host host)) at is = absurd (cc)
   value_fits name what type (Some (meaning.Parameter local scale)) at is = absurd (known.of_main name (meaning.Parameter local scale) at)
   value_fits name what type (Some (meaning.Own element)) at is = absurd (cc)
   value_fits name what type (Some (meaning.Ends element count)) at is = absurd (cc)
@@ -102,7 +103,7 @@ module _ (program : TypedProgram) (sets : List SetValue) (env : Environment) (de
   field_of_set set field what type Main (Some (k, f)) at is =
       subst (λ p. Fits sets p.1 (referred (record { program = program; sets = sets; variables = variables; locals = locals; place = None }) p.0 [] []))
       (same_answer (referent.Field set k, over_set set f) (what, type) is)
-      (field_fits (set_fields program set) sets set k field f (ap (λ fs. find_field fs field) (sym (same_fields set)) ∙ at))
+      (field_fits (set_fields program.typed set) sets set k field f (ap (λ fs. find_field fs field) (sym (same_fields set)) ∙ at))
 
   member_fits : (name field : Name) (what : Referent) (type : NodeType) (m : Option Meaning) → meaning_of env.names name ≡ m → member_rule env m field [] [] ≡ Ok (what, type)
       → Fits sets type (referred (record { program = program; sets = sets; variables = variables; locals = locals; place = None }) what [] [])
@@ -112,6 +113,7 @@ module _ (program : TypedProgram) (sets : List SetValue) (env : Environment) (de
   member_fits name field what type (Some (meaning.Set n)) at is =
       field_of_set n field what type env.level (find_field (lookups.fields_of env.declarations (lookups.element_in env.declarations n)) field) refl is
   member_fits name field what type (Some (meaning.Function n)) at is = absurd (cc)
+  member_fits name field what type (Some (meaning.Host host)) at is = absurd (cc)
   member_fits name field what type (Some (meaning.Parameter local scale)) at is = absurd (cc)
   member_fits name field what type (Some (meaning.Own element)) at is = absurd (known.of_main name (meaning.Own element) at)
   member_fits name field what type (Some (meaning.Ends element count)) at is = absurd (known.of_main name (meaning.Ends element count) at)
@@ -130,7 +132,7 @@ module _ (program : TypedProgram) (sets : List SetValue) (env : Environment) (de
 -- ---- what goes on
 
 -- after a list of statements: what was known before it, over the values after it
-pub known_again : (program : TypedProgram) (sets later : List SetValue) (before inner : Environment) (depth deeper : ℕ) (variables locals vs ls : List Value)
+pub known_again : (program : LinkedProgram) (sets later : List SetValue) (before inner : Environment) (depth deeper : ℕ) (variables locals vs ls : List Value)
     → Grows before inner depth deeper → Known program sets before depth variables locals → Known program later inner deeper vs ls
     → Known program later before depth vs ls
 known_again program sets later before inner depth deeper variables locals vs ls grows here there = record {
@@ -146,7 +148,7 @@ known_again program sets later before inner depth deeper variables locals vs ls 
 }
 
 -- with more declared, but no name
-pub known_later : (program : TypedProgram) (sets : List SetValue) (before inner : Environment) (depth deeper : ℕ) (variables locals : List Value)
+pub known_later : (program : LinkedProgram) (sets : List SetValue) (before inner : Environment) (depth deeper : ℕ) (variables locals : List Value)
     → Grows before inner depth deeper → Known program sets before depth variables locals → Known program sets (with_declarations before inner.declarations) depth variables locals
 known_later program sets before inner depth deeper variables locals grows here = record {
   level = here.level;
@@ -160,7 +162,7 @@ known_later program sets before inner depth deeper variables locals grows here =
   count = here.count;
 }
 
-pub known_over : (program : TypedProgram) (before after : List SetValue) (env : Environment) (depth : ℕ) (variables locals : List Value) → DifferInWords before after
+pub known_over : (program : LinkedProgram) (before after : List SetValue) (env : Environment) (depth : ℕ) (variables locals : List Value) → DifferInWords before after
     → Known program before env depth variables locals → Known program after env depth variables locals
 known_over program before after env depth variables locals same here = record {
   level = here.level;
@@ -182,7 +184,7 @@ value_set values n value below = ap found (get_set_same values n value below)
 value_kept : (values : List Value) (n k : ℕ) (value : Value) → (n ≡ k → ⊥) → value_at (slice_set values n value) k ≡ value_at values k
 value_kept values n k value differ = ap found (get_set_other values n k value differ)
 
-pub known_set : (program : TypedProgram) (sets : List SetValue) (env : Environment) (depth : ℕ) (variables locals : List Value) (n : ℕ) (t : NodeType) (value : Value)
+pub known_set : (program : LinkedProgram) (sets : List SetValue) (env : Environment) (depth : ℕ) (variables locals : List Value) (n : ℕ) (t : NodeType) (value : Value)
     → Known program sets env depth variables locals → type_at env n ≡ Some t → n < length variables → Fits sets t value
     → Known program sets env depth (slice_set variables n value) locals
 known_set program sets env depth variables locals n t value here typed below fits = record {
@@ -242,9 +244,9 @@ variable_kept sets vars v variables value k u below fits (inr old) = (
   subst (Fits sets u) (sym (value_kept variables (length vars) k value (not_past vars k u old.0))) old.1,
 )
 
-pub known_declared : (program : TypedProgram) (sets : List SetValue) (walk : Walk) (name : Name) (type : NodeType) (variables locals : List Value) (value : Value)
+pub known_declared : (program : LinkedProgram) (sets : List SetValue) (walk : Walk) (name : Name) (type : NodeType) (variables locals : List Value) (value : Value)
     → Known program sets walk.environment walk.locals variables locals
-    → length (with_variable walk name type).environment.declarations.variables ≤ length program.variables → Fits sets type value
+    → length (with_variable walk name type).environment.declarations.variables ≤ length program.typed.variables → Fits sets type value
     → Known program sets (with_variable walk name type).environment (with_variable walk name type).locals
     (slice_set variables (length walk.environment.declarations.variables) value) locals
 unfolding with_variable
@@ -274,10 +276,10 @@ known_declared program sets walk name type variables locals value here few fits 
         × Fits sets u (value_at (slice_set variables (length walk.environment.declarations.variables) value) k)
     variable_of other k u (inl is) =
         variable_kept sets walk.environment.declarations.variables (record { name = name; value_type = type }) variables value k u
-        (in_room walk.environment.declarations.variables (record { name = name; value_type = type }) (length program.variables) (length variables) few here.count) fits (inl is)
+        (in_room walk.environment.declarations.variables (record { name = name; value_type = type }) (length program.typed.variables) (length variables) few here.count) fits (inl is)
     variable_of other k u (inr at) =
         variable_kept sets walk.environment.declarations.variables (record { name = name; value_type = type }) variables value k u
-        (in_room walk.environment.declarations.variables (record { name = name; value_type = type }) (length program.variables) (length variables) few here.count) fits
+        (in_room walk.environment.declarations.variables (record { name = name; value_type = type }) (length program.typed.variables) (length variables) few here.count) fits
         (inr (here.of_variables other k u at))
 
     counter_of : (other : Name) (l : ℕ)
@@ -297,7 +299,7 @@ one_less l depth below = omega (arith, below)
 itself_less : (depth : ℕ) → depth < suc depth
 itself_less depth = omega arith
 
-pub known_counting : (program : TypedProgram) (sets : List SetValue) (env : Environment) (depth : ℕ) (variables locals : List Value) (name : Name) (word : ℕ)
+pub known_counting : (program : LinkedProgram) (sets : List SetValue) (env : Environment) (depth : ℕ) (variables locals : List Value) (name : Name) (word : ℕ)
     → Known program sets env depth variables locals
     → Known program sets (with_names env (with_meaning env.names name (meaning.Counter depth))) (suc depth) variables (with_local locals depth (number word))
 known_counting program sets env depth variables locals name word here = record {

@@ -8,7 +8,7 @@ use Rattle.typed_tree.specs.declared.main_procedure.MainStmt.TheOpen.{MainStmt-F
 use Rattle.typed_tree.specs.declared.main_procedure.TypedRight.{TypedRight}
 use Rattle.typed_tree.specs.declared.main_procedure.TypedTarget.{TypedTarget}
 use Rattle.typed_tree.specs.declared.main_procedure.TypedTarget.TheVariants as target
-use Rattle.typed_tree.specs.declared.program.TypedProgram.{TypedProgram}
+use Rattle.algebra_meaning.specs.Linked.{LinkedProgram}
 use Rattle.value_algebra.specs.declared.value.Value.{Value}
 use Rattle.value_algebra.specs.Value.{word_of}
 use Rattle.algebra_meaning.specs.declared.state.State.{State}
@@ -16,18 +16,18 @@ use Rattle.algebra_meaning.specs.declared.stopped.Stop.{Stop}
 use Rattle.run_laws.specs.Runs.{Yields, AreChanged, RunsTo, Repeats, Counts, AllRunTo}
 
 -- targets got the values of a right side
-pub record Assigned (program : TypedProgram) (line : ℕ) (targets : List TypedTarget) (r : TypedRight) (before after : State) : Type 0 where
+pub record Assigned (program : LinkedProgram) (line : ℕ) (targets : List TypedTarget) (r : TypedRight) (before after : State) : Type 0 where
   pub values : List Value
   pub yields : Yields program line before r (Ok values)
   pub changed : AreChanged program targets values before after
 
 -- a `for` went over all its values
-pub record Counted (program : TypedProgram) (local : ℕ) (body : List MainStmt) (before after : State) : Type 0 where
+pub record Counted (program : LinkedProgram) (local : ℕ) (body : List MainStmt) (before after : State) : Type 0 where
   pub from : ℕ
   pub to : ℕ
   pub counts : Counts program local to body from before (Ok after)
 
-abbrev pub Ran : TypedProgram → MainStmt-F MainStmt → State → State → Type 0
+abbrev pub Ran : LinkedProgram → MainStmt-F MainStmt → State → State → Type 0
 Ran program (MainStmt-F.Var line numbers r) before after = Assigned program line (map target.Variable numbers) r before after
 Ran program (MainStmt-F.Assign line targets r) before after = Assigned program line targets r before after
 Ran program (MainStmt-F.While line cond body) before after = Repeats program line cond body before (Ok after)
@@ -35,7 +35,7 @@ Ran program (MainStmt-F.For line local from to body) before after = Counted prog
 Ran program (MainStmt-F.If line cond body otherwise) before after = AllRunTo program body before (Ok after) ⊎ AllRunTo program otherwise before (Ok after)
 Ran program (MainStmt-F.Assert line cond) before after = before ≡ after
 
-abbrev Ends : TypedProgram → MainStmt-F MainStmt → State → Result State Stop → Type 0
+abbrev Ends : LinkedProgram → MainStmt-F MainStmt → State → Result State Stop → Type 0
 Ends program form before (Ok after) = Ran program form before after
 Ends program form before (Err stop) = Unit {0}
 
@@ -57,7 +57,7 @@ if_out line cond body otherwise = ap out-MainStmt (sym (stmt.rolls-If line cond 
 assert_out : (line : ℕ) (cond : TypedCond) → out-MainStmt (stmt.Assert line cond) ≡ MainStmt-F.Assert line cond
 assert_out line cond = ap out-MainStmt (sym (stmt.rolls-Assert line cond)) ∙ out-roll-MainStmt (MainStmt-F.Assert line cond)
 
-ends : (program : TypedProgram) (s : MainStmt) (before : State) (outcome : Result State Stop) → RunsTo program s before outcome → Ends program (out-MainStmt s) before outcome
+ends : (program : LinkedProgram) (s : MainStmt) (before : State) (outcome : Result State Stop) → RunsTo program s before outcome → Ends program (out-MainStmt s) before outcome
 ends program s before outcome (RunsTo.variables line numbers r values state after yields changed) =
     subst (λ f. Ran program f state after) (sym (var_out line numbers r)) (record { values = values; yields = yields; changed = changed })
 ends program s before outcome (RunsTo.variables_stop line numbers r stop state yields) = tt
@@ -96,7 +96,7 @@ ends program s before outcome (RunsTo.assertion_holds line cond state held) = su
 ends program s before outcome (RunsTo.assertion_fails line cond state held) = tt
 ends program s before outcome (RunsTo.assertion_traps line cond kind state held) = tt
 
-module _ (program : TypedProgram) (before after : State) where
+module _ (program : LinkedProgram) (before after : State) where
   pub var_ran : (line : ℕ) (numbers : List ℕ) (r : TypedRight) → RunsTo program (stmt.Var line numbers r) before (Ok after)
       → Assigned program line (map target.Variable numbers) r before after
   var_ran line numbers r runs = subst (λ f. Ran program f before after) (var_out line numbers r) (ends program (stmt.Var line numbers r) before (Ok after) runs)

@@ -6,7 +6,7 @@ use Rattle.typed_tree.specs.declared.environment.Walk.{Walk}
 use Rattle.typed_tree.specs.declared.main_procedure.MainStmt.{MainStmt}
 use Rattle.typed_tree.specs.declared.main_procedure.MainStmt.TheVariants as stmt
 use Rattle.typed_tree.specs.declared.names.Meaning.TheVariants as meaning
-use Rattle.typed_tree.specs.declared.program.TypedProgram.{TypedProgram}
+use Rattle.algebra_meaning.specs.Linked.{LinkedProgram}
 use Rattle.typed_tree.specs.Names.{Name}
 use Rattle.typed_tree.specs.Walking.{naming_local, with_nodes}
 use Rattle.typing_laws.specs.MainStatements.{IsMainTyping, AreMainTypings}
@@ -28,7 +28,7 @@ abbrev EndsIn : (State → Type 0) → Result State Stop → Type 0
 EndsIn P (Ok after) = P after
 EndsIn P (Err stop) = Unit {0}
 
-repeated : (program : TypedProgram) (P : State → Type 0) (line : ℕ) (cond : TypedCond) (body : List MainStmt) (before : State) (outcome : Result State Stop)
+repeated : (program : LinkedProgram) (P : State → Type 0) (line : ℕ) (cond : TypedCond) (body : List MainStmt) (before : State) (outcome : Result State Stop)
     → ((state : State) (left : ℕ) (after : State) → P state → AllRunTo program body (with_turns state left) (Ok after) → P after)
     → Repeats program line cond body before outcome → P before → EndsIn P outcome
 repeated program P line cond body before outcome turn (Repeats.while_traps l c b kind state held) here = tt
@@ -38,7 +38,7 @@ repeated program P line cond body before outcome turn (Repeats.while_stops l c b
 repeated program P line cond body before outcome turn (Repeats.while_goes_on l c b few state between end held one runs others) here =
     repeated program P l c b between end turn others (turn state few between here runs)
 
-counted : (program : TypedProgram) (P : State → Type 0) (local to : ℕ) (body : List MainStmt) (from : ℕ) (before : State) (outcome : Result State Stop)
+counted : (program : LinkedProgram) (P : State → Type 0) (local to : ℕ) (body : List MainStmt) (from : ℕ) (before : State) (outcome : Result State Stop)
     → ((state : State) (from left : ℕ) (after : State) → P state → AllRunTo program body (in_turn_of state local from left) (Ok after) → P after)
     → Counts program local to body from before outcome → P before → EndsIn P outcome
 counted program P local to body from before outcome turn (Counts.for_ends i n b word state less) here = here
@@ -50,18 +50,18 @@ counted program P local to body from before outcome turn (Counts.for_goes_on i n
 -- ---- statements
 
 -- there are no more variables than the program has
-abbrev IsWithin : TypedProgram → Walk → Type 0
-IsWithin program walk = length walk.environment.declarations.variables ≤ length program.variables
+abbrev IsWithin : LinkedProgram → Walk → Type 0
+IsWithin program walk = length walk.environment.declarations.variables ≤ length program.typed.variables
 
-within : (program : TypedProgram) (before after : Walk) → GoesOn before after → IsWithin program after → IsWithin program before
+within : (program : LinkedProgram) (before after : Walk) → GoesOn before after → IsWithin program after → IsWithin program before
 within program before after grows few =
-    in_turn (length before.environment.declarations.variables) (length after.environment.declarations.variables) (length program.variables) grows.count few
+    in_turn (length before.environment.declarations.variables) (length after.environment.declarations.variables) (length program.typed.variables) grows.count few
 
-again : (program : TypedProgram) (walk inner : Walk) (state after : State) → GoesOn walk inner → KnownIn program walk state → KnownIn program inner after → KnownIn program walk after
+again : (program : LinkedProgram) (walk inner : Walk) (state after : State) → GoesOn walk inner → KnownIn program walk state → KnownIn program inner after → KnownIn program walk after
 again program walk inner state after grows here there =
     known_again program state.sets after.sets walk.environment inner.environment walk.locals inner.locals state.variables state.locals after.variables after.locals grows here there
 
-later : (program : TypedProgram) (walk inner : Walk) (state : State) → GoesOn walk inner → KnownIn program walk state → KnownIn program (leaving walk inner) state
+later : (program : LinkedProgram) (walk inner : Walk) (state : State) → GoesOn walk inner → KnownIn program walk state → KnownIn program (leaving walk inner) state
 later program walk inner state grows here =
     known_later program state.sets walk.environment inner.environment walk.locals inner.locals state.variables state.locals grows here
 
@@ -77,12 +77,12 @@ first_left walk first second one other =
     goes_on walk.environment (leaving walk first).environment second.environment walk.locals walk.locals second.locals
     (left walk.environment first.environment walk.locals first.locals one) other
 
-counting : (program : TypedProgram) (walk : Walk) (end : ℕ) (name : Name) (state : State) (from few : ℕ) → KnownIn program walk state
+counting : (program : LinkedProgram) (walk : Walk) (end : ℕ) (name : Name) (state : State) (from few : ℕ) → KnownIn program walk state
     → KnownIn program (counter walk end name) (in_turn_of state walk.locals from few)
 counting program walk end name state from few here =
     known_counting program state.sets walk.environment walk.locals state.variables state.locals name from here
 
-module _ (program : TypedProgram) where
+module _ (program : LinkedProgram) where
   mutual
     -- statements of which one begins go on in what is known
     pub come_on : (body : List Stmt) (done : List MainStmt) (walk after : Walk) (state : State) (begun : Begun) → AllCome program body done walk after state begun → GoesOn walk after
@@ -116,7 +116,7 @@ module _ (program : TypedProgram) where
         list_grows b d here end typed
 
 -- after one of two lists of statements
-chosen : (program : TypedProgram) (walk first second : Walk) (state end : State) → GoesOn walk first → GoesOn (leaving walk first) second → (A B : Type 0) → KnownIn program walk state
+chosen : (program : LinkedProgram) (walk first second : Walk) (state end : State) → GoesOn walk first → GoesOn (leaving walk first) second → (A B : Type 0) → KnownIn program walk state
     → (A → KnownIn program first end) → (B → KnownIn program (leaving walk first) state → KnownIn program second end) → A ⊎ B
     → KnownIn program (past (leaving walk second)) end
 chosen program walk first second state end grows more A B known by_first by_second (inl ran) =
@@ -125,7 +125,7 @@ chosen program walk first second state end grows more A B known by_first by_seco
     let begun = later program walk first state grows known in
     later program (leaving walk first) second end more (again program (leaving walk first) second state end more begun (by_second ran begun))
 
-module _ (sized : AreSized) (sums : SumsAreSized) (changes : StatementsChangeWords) (program : TypedProgram) (proper : AreProper program.functions) where
+module _ (sized : AreSized) (sums : SumsAreSized) (changes : StatementsChangeWords) (program : LinkedProgram) (proper : AreProper program.typed.functions) where
   mutual
     statement_known : (s : Stmt) (t : MainStmt) (walk after : Walk) (state end : State) → IsMainTyping s t walk after → RunsTo program t state (Ok end)
         → IsWithin program after → KnownIn program walk state → KnownIn program after end

@@ -2,6 +2,7 @@
 -- judgement of types and the relation of runs go over the statements side by side.
 use Rattle.std.specs.Prelude.{◌≡◌, ℕ, suc, true, false, List, ◌∷◌, Ok}
 use Rattle.ring_words.specs.Word.{add, is_less}
+use Rattle.host_table.specs.declared.table.HostName.{HostName}
 use Rattle.sim_syntax.specs.declared.condition.Cond.{Cond}
 use Rattle.sim_syntax.specs.declared.expression.Expr as tree
 use Rattle.sim_syntax.specs.declared.program.Program.{Program}
@@ -14,7 +15,6 @@ use Rattle.typed_tree.specs.declared.expression.TypedExpr.{TypedExpr}
 use Rattle.typed_tree.specs.declared.main_procedure.MainStmt.{MainStmt}
 use Rattle.typed_tree.specs.declared.main_procedure.MainStmt.TheVariants as typed
 use Rattle.typed_tree.specs.declared.names.Meaning.TheVariants as meaning
-use Rattle.typed_tree.specs.declared.program.TypedProgram.{TypedProgram}
 use Rattle.typed_tree.specs.Names.{Name}
 use Rattle.typed_tree.specs.Walking.{with_nodes, naming_local}
 use Rattle.typing_laws.specs.Conditions.{IsConditionTyping}
@@ -27,6 +27,7 @@ use Rattle.typing_laws.specs.Scopes.{IsNew, past, leaving}
 use Rattle.value_algebra.specs.declared.value.Value.{Value}
 use Rattle.value_algebra.specs.Value.{number, word_of}
 use Rattle.algebra_meaning.specs.Element.{with_local}
+use Rattle.algebra_meaning.specs.Linked.{Answer, LinkedProgram, linked}
 use Rattle.algebra_meaning.specs.Expression.{holds, meaning}
 use Rattle.algebra_meaning.specs.declared.state.State.{State}
 use Rattle.run_laws.specs.Runs as runs
@@ -49,7 +50,7 @@ in_turn_of state local from left = record state { locals = with_local state.loca
 
 mutual
   -- Of a statement and its typing, what is known before and after it, and the state before it: which statements begin in its run.
-  pub data Comes (program : TypedProgram) : Stmt → MainStmt → Walk → Walk → State → Begun → Type 0 where
+  pub data Comes (program : LinkedProgram) : Stmt → MainStmt → Walk → Walk → State → Begun → Type 0 where
     -- the statement itself
     begins : (s : Stmt) (t : MainStmt) (walk after : Walk) (state : State) → IsMainTyping s t walk after
         → Comes program s t walk after state (record { statement = s; typing = t; walk = walk; state = state })
@@ -89,7 +90,7 @@ mutual
         → Comes program (stmt.If line cond body otherwise) (typed.If line tested done other) walk (past (leaving walk second)) state begun
 
   -- the same of the body of a `for`, from a value of its variable on, up to below another
-  pub data ComesCounting (program : TypedProgram) : ℕ → ℕ → List Stmt → List MainStmt → Walk → Walk → ℕ → State → Begun → Type 0 where
+  pub data ComesCounting (program : LinkedProgram) : ℕ → ℕ → List Stmt → List MainStmt → Walk → Walk → ℕ → State → Begun → Type 0 where
     this_turn : (local to : ℕ) (body : List Stmt) (done : List MainStmt) (walk inner : Walk) (from left : ℕ) (state : State) (begun : Begun)
         → is_less from to ≡ true → state.turns ≡ suc left
         → AllCome program body done walk inner (in_turn_of state local from left) begun
@@ -101,7 +102,7 @@ mutual
         → ComesCounting program local to body done walk inner from state begun
 
   -- the same of statements one after the other
-  pub data AllCome (program : TypedProgram) : List Stmt → List MainStmt → Walk → Walk → State → Begun → Type 0 where
+  pub data AllCome (program : LinkedProgram) : List Stmt → List MainStmt → Walk → Walk → State → Begun → Type 0 where
     first : (s : Stmt) (body : List Stmt) (t : MainStmt) (done : List MainStmt) (walk between after : Walk) (state : State) (begun : Begun)
         → Comes program s t walk between state begun → AreMainTypings body done between after
         → AllCome program (s ∷ body) (t ∷ done) walk after state begun
@@ -109,10 +110,10 @@ mutual
         → IsMainTyping s t walk between → RunsTo program t state (Ok next) → AllCome program body done between after next begun
         → AllCome program (s ∷ body) (t ∷ done) walk after state begun
 
--- the run of a program, with its typing, over sets and with so many turns
-pub data Reaches : TypedProgram → List SetValue → ℕ → Begun → Type 0 where
-  reaches : (program : Program) (declared inner : Walk) (body : List MainStmt) (sets : List SetValue) (turns : ℕ) (begun : Begun)
-      → AreDeclarations program.decls programs.at_first declared
-      → AllCome (program_with program inner.environment.declarations body) program.body body (before_main declared) inner
-      (runs.at_first (program_with program inner.environment.declarations body) sets turns) begun
-      → Reaches (program_with program inner.environment.declarations body) sets turns begun
+-- the run of a program, with its typing by what the host offers, over sets and with so many turns
+pub data Reaches (hosts : List HostName) : LinkedProgram → List SetValue → ℕ → Begun → Type 0 where
+  reaches : (answer : Answer) (program : Program) (declared inner : Walk) (body : List MainStmt) (sets : List SetValue) (turns : ℕ) (begun : Begun)
+      → AreDeclarations hosts program.decls programs.at_first declared
+      → AllCome (linked answer (program_with program inner.environment.declarations body)) program.body body (before_main declared) inner
+      (runs.at_first (linked answer (program_with program inner.environment.declarations body)) sets turns) begun
+      → Reaches hosts (linked answer (program_with program inner.environment.declarations body)) sets turns begun

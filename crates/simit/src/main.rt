@@ -1,6 +1,7 @@
 //! `simit`: the runner over the real files and streams.
 #![tactic(auto)]
 
+use main_hosts::main_hosts;
 use simit_io::{Files, Stream, put_all};
 use simit_run::{Status, run};
 use std::alloc::AllocError;
@@ -27,13 +28,22 @@ fn main(rt: HostRuntime) -> ExitCode {
         let mut inputs = Files::new(&rt);
         let mut out = Stream::output(rt.stdout());
         let mut notes = Stream::error(rt.stderr());
-        match words_of(&rt) {
-            Ok(words) => run(rt.alloc(), &words, &mut inputs, &mut out, &mut notes),
-            Err(AllocError) => {
-                let _ = put_all(&mut notes, b"no memory\n");
-                Status::Memory
-            }
-        }
+        let Ok(words) = words_of(&rt) else {
+            let _ = put_all(&mut notes, b"no memory\n");
+            return Status::Memory;
+        };
+        let Ok(hosts) = main_hosts(rt.alloc()) else {
+            let _ = put_all(&mut notes, b"no memory\n");
+            return Status::Memory;
+        };
+        run(
+            rt.alloc(),
+            &words,
+            &mut inputs,
+            &mut out,
+            &mut notes,
+            &hosts,
+        )
     };
     let status = match Builder::new().stack_size(STACK_BYTES).spawn(&rt, call) {
         Ok(thread) => thread.join(&rt),

@@ -2,7 +2,7 @@
 use Rattle.std.proofs.Common.{◌≡◌, ℕ, true, false, List, Result, Ok, Err, sym, ap, ◌∙◌}
 use Rattle.std.specs.Prelude.{Bool, nat_lt, if◌then◌else◌}
 use Rattle.hypergraph.specs.SetValue.{SetValue}
-use Rattle.typed_tree.specs.declared.program.TypedProgram.{TypedProgram}
+use Rattle.algebra_meaning.specs.Linked.{LinkedProgram}
 use Rattle.algebra_meaning.specs.Run.{run}
 use Rattle.algebra_meaning.specs.declared.stopped.Stop.{Stop}
 use Rattle.algebra_meaning.specs.declared.stopped.Stop.TheVariants as stop
@@ -24,9 +24,9 @@ within-limit : (over : Bool) (outcome : Result (List SetValue) Stop) (ending : E
 within-limit true outcome ending is = cc is
 within-limit false outcome ending is = cc is
 
-pub ran : (program : TypedProgram) (turns : ℕ) (sets : List SetValue) (ending : Ending) (after : List SetValue) → refused (ending_within program turns sets) ≡ Ok ending → Ok after ≡ refused (sets_left ending)
+pub ran : (program : LinkedProgram) (turns : ℕ) (sets : List SetValue) (ending : Ending) (after : List SetValue) → refused (ending_within program turns sets) ≡ Ok ending → Ok after ≡ refused (sets_left ending)
     → run program sets turns ≡ Ok after
 unfolding ending_within
 ran program turns sets ending after is left =
     ok-of (run program sets turns) after
-    (ap (λ e. refused (sets_left e)) (sym (within-limit (nat_lt MOST_DENSE_WORDS (dense_words program sets)) (run program sets turns) ending is)) ∙ sym left)
+    (ap (λ e. refused (sets_left e)) (sym (within-limit (nat_lt MOST_DENSE_WORDS (dense_words program.typed sets)) (run program sets turns) ending is)) ∙ sym left)

@@ -8,6 +8,9 @@ use Rattle.vocabulary.specs.Answers.{Answers}
 use Rattle.simit_io.specs.Inputs.{Files, Rose}
 use Rattle.hypergraph.specs.SetValue.{SetValue}
 use Rattle.typed_tree.specs.declared.program.TypedProgram.{TypedProgram}
+use Rattle.host_table.specs.declared.table.HostName.{HostName}
+use Rattle.algebra_meaning.specs.Linked.{LinkedProgram, linked}
+use Rattle.simit_run.specs.Hosts.{Hosts}
 use Rattle.simit_run.specs.Answer.{files_stage, names_for, program_stage, set_in, set_stage, tables_stage, typed_stage, with_set}
 use Rattle.simit_run.specs.Output.{chosen_in, output_of}
 use Rattle.simit_run.specs.ProgramText.{typed_of}
@@ -21,20 +24,20 @@ use Rattle.simit_run.proofs.StagesShown.{fails_first, fold_end, fold_fails, fold
 
 -- ---- the program's file
 
-module _ (known : Option Files) (rose : Type 0) (name : List ℕ) where
-  pub program_fails_first : (failure : Failure) → ShowsFailure known rose (file role.Program name) failure → ShowsFailure known rose (program_stage name) failure
+module _ (hosts : List HostName) (known : Option Files) (rose : Type 0) (name : List ℕ) where
+  pub program_fails_first : (failure : Failure) → ShowsFailure known rose (file role.Program name) failure → ShowsFailure known rose (program_stage hosts name) failure
   unfolding program_stage
-  program_fails_first failure shown = fails_first known rose rose (file role.Program name) (λ source. decided (typed_of source)) failure (λ r. r) shown
+  program_fails_first failure shown = fails_first known rose rose (file role.Program name) (λ source. decided (typed_of hosts source)) failure (λ r. r) shown
 
-  pub program_fails : (bytes : List ℕ) (failure : Failure) → IfSome known (λ files. (file role.Program name).answer files ≡ Ok bytes) → Answers Memory (refused (typed_of bytes)) (Err failure)
-      → ShowsFailure known rose (program_stage name) failure
+  pub program_fails : (bytes : List ℕ) (failure : Failure) → IfSome known (λ files. (file role.Program name).answer files ≡ Ok bytes) → Answers Memory (refused (typed_of hosts bytes)) (Err failure)
+      → ShowsFailure known rose (program_stage hosts name) failure
   unfolding program_stage
-  program_fails bytes failure given answers = file_then_fails known rose role.Program name bytes typed_of failure given answers
+  program_fails bytes failure given answers = file_then_fails known rose role.Program name bytes (typed_of hosts) failure given answers
 
-  pub program_given : (bytes : List ℕ) (program : TypedProgram) → IfSome known (λ files. (file role.Program name).answer files ≡ Ok bytes) → refused (typed_of bytes) ≡ Ok program
-      → IfSome known (λ files. (program_stage name).answer files ≡ Ok program)
+  pub program_given : (bytes : List ℕ) (program : TypedProgram) → IfSome known (λ files. (file role.Program name).answer files ≡ Ok bytes) → refused (typed_of hosts bytes) ≡ Ok program
+      → IfSome known (λ files. (program_stage hosts name).answer files ≡ Ok program)
   unfolding program_stage
-  program_given bytes program given is = file_then_gives known role.Program name bytes typed_of program given is
+  program_given bytes program given is = file_then_gives known role.Program name bytes (typed_of hosts) program given is
 
 -- ---- the file of the next table
 
@@ -116,47 +119,47 @@ unfolding names_for
 names-differ program tables differs =
     ap (λ b. if b then Ok tables else Err (FileCount (length tables) (length program.sets))) (ne_eqb (length tables) (length program.sets) differs)
 
-module _ (known : Option Files) (rose : Type 0) (program : TypedProgram) (turns : ℕ) (chosen : Option ℕ) (tables : List (List ℕ)) where
+module _ (known : Option Files) (rose : Type 0) (program : LinkedProgram) (turns : ℕ) (chosen : Option ℕ) (tables : List (List ℕ)) where
   -- the stages after the names
   abbrev on_names : List (List ℕ) → Stage (List ℕ)
-  on_names names = fold_stages (with_set program) [] names >>= λ sets. decided (output_of program turns chosen sets)
+  on_names names = fold_stages (with_set program.typed) [] names >>= λ sets. decided (output_of program turns chosen sets)
 
   -- another number of tables than of sets
-  pub count_differs : ((length tables ≡ length program.sets) → ⊥) → ShowsFailure known rose (tables_stage program turns chosen tables) (Refused (FileCount (length tables) (length program.sets)))
+  pub count_differs : ((length tables ≡ length program.typed.sets) → ⊥) → ShowsFailure known rose (tables_stage program turns chosen tables) (Refused (FileCount (length tables) (length program.typed.sets)))
   unfolding tables_stage
   count_differs differs =
-      fails_first known rose rose (decided (names_for program tables)) on_names (Refused (FileCount (length tables) (length program.sets))) (λ r. r)
-      (shows_decided known rose (names_for program tables) (Refused (FileCount (length tables) (length program.sets))) (inr (ap refused (names-differ program tables differs))))
+      fails_first known rose rose (decided (names_for program.typed tables)) on_names (Refused (FileCount (length tables) (length program.typed.sets))) (λ r. r)
+      (shows_decided known rose (names_for program.typed tables) (Refused (FileCount (length tables) (length program.typed.sets))) (inr (ap refused (names-differ program.typed tables differs))))
 
-  given_names : length tables ≡ length program.sets → IfSome known (λ files. (decided (names_for program tables)).answer files ≡ Ok tables)
-  given_names same = gives_decided known (names_for program tables) tables (ap refused (names-given program tables same))
+  given_names : length tables ≡ length program.typed.sets → IfSome known (λ files. (decided (names_for program.typed tables)).answer files ≡ Ok tables)
+  given_names same = gives_decided known (names_for program.typed tables) tables (ap refused (names-given program.typed tables same))
 
   -- a table fails
-  pub tables_fail : length tables ≡ length program.sets → (failure : Failure) → ShowsFailure known rose (fold_stages (with_set program) [] tables) failure → ShowsFailure known rose (tables_stage program turns chosen tables) failure
+  pub tables_fail : length tables ≡ length program.typed.sets → (failure : Failure) → ShowsFailure known rose (fold_stages (with_set program.typed) [] tables) failure → ShowsFailure known rose (tables_stage program turns chosen tables) failure
   unfolding tables_stage
   tables_fail same failure shown =
-      shows_whole {X = List ℕ} (λ text. text) known rose rose (decided (names_for program tables) >>= on_names) (on_names tables) (Err failure) (λ r. r)
-      (goes_next known (decided (names_for program tables)) on_names tables (given_names same))
-      (fails_first known rose rose (fold_stages (with_set program) [] tables) (λ sets. decided (output_of program turns chosen sets)) failure (λ r. r) shown)
+      shows_whole {X = List ℕ} (λ text. text) known rose rose (decided (names_for program.typed tables) >>= on_names) (on_names tables) (Err failure) (λ r. r)
+      (goes_next known (decided (names_for program.typed tables)) on_names tables (given_names same))
+      (fails_first known rose rose (fold_stages (with_set program.typed) [] tables) (λ sets. decided (output_of program turns chosen sets)) failure (λ r. r) shown)
 
   -- all are read, and what is put out of them is left
-  all_read : length tables ≡ length program.sets → (sets : List SetValue) → IfSome known (λ files. (fold_stages (with_set program) [] tables).answer files ≡ Ok sets)
+  all_read : length tables ≡ length program.typed.sets → (sets : List SetValue) → IfSome known (λ files. (fold_stages (with_set program.typed) [] tables).answer files ≡ Ok sets)
       → GoesOn known (tables_stage program turns chosen tables) (decided (output_of program turns chosen sets))
   unfolding tables_stage
   all_read same sets given =
-      goes_further known (decided (names_for program tables) >>= on_names) (on_names tables) (decided (output_of program turns chosen sets))
-      (goes_next known (decided (names_for program tables)) on_names tables (given_names same))
-      (goes_next known (fold_stages (with_set program) [] tables) (λ sets. decided (output_of program turns chosen sets)) sets given)
+      goes_further known (decided (names_for program.typed tables) >>= on_names) (on_names tables) (decided (output_of program turns chosen sets))
+      (goes_next known (decided (names_for program.typed tables)) on_names tables (given_names same))
+      (goes_next known (fold_stages (with_set program.typed) [] tables) (λ sets. decided (output_of program turns chosen sets)) sets given)
 
   -- there is no output
-  pub output_fails : length tables ≡ length program.sets → (sets : List SetValue) → IfSome known (λ files. (fold_stages (with_set program) [] tables).answer files ≡ Ok sets)
+  pub output_fails : length tables ≡ length program.typed.sets → (sets : List SetValue) → IfSome known (λ files. (fold_stages (with_set program.typed) [] tables).answer files ≡ Ok sets)
       → (failure : Failure) → Answers Memory (refused (output_of program turns chosen sets)) (Err failure) → ShowsFailure known rose (tables_stage program turns chosen tables) failure
   output_fails same sets given failure answers =
       shows_whole {X = List ℕ} (λ text. text) known rose rose (tables_stage program turns chosen tables) (decided (output_of program turns chosen sets)) (Err failure) (λ r. r) (all_read same sets given)
       (shows_decided known rose (output_of program turns chosen sets) failure answers)
 
   -- there is one
-  pub output_given : length tables ≡ length program.sets → (sets : List SetValue) → IfSome known (λ files. (fold_stages (with_set program) [] tables).answer files ≡ Ok sets)
+  pub output_given : length tables ≡ length program.typed.sets → (sets : List SetValue) → IfSome known (λ files. (fold_stages (with_set program.typed) [] tables).answer files ≡ Ok sets)
       → (text : List ℕ) → refused (output_of program turns chosen sets) ≡ Ok text → IfSome known (λ files. (tables_stage program turns chosen tables).answer files ≡ Ok text)
   output_given same sets given text is =
       shows_whole {X = List ℕ} (λ text. text) known rose rose (tables_stage program turns chosen tables) (decided (output_of program turns chosen sets)) (Ok text) (λ r. r) (all_read same sets given)
@@ -164,39 +167,39 @@ module _ (known : Option Files) (rose : Type 0) (program : TypedProgram) (turns 
 
 -- ---- the program on its tables, where the set is chosen by its name
 
-module _ (known : Option Files) (program : TypedProgram) (turns : ℕ) (only : Option (List ℕ)) (tables : List (List ℕ)) where
+module _ (known : Option Files) (program : LinkedProgram) (turns : ℕ) (only : Option (List ℕ)) (tables : List (List ℕ)) where
   abbrev on_chosen : Option ℕ → Stage (List ℕ)
   on_chosen chosen = tables_stage program turns chosen tables
 
   -- there is no such set
-  pub none_chosen : (rose : Type 0) (failure : Failure) → Err failure ≡ refused (chosen_in program only) → ShowsFailure known rose (typed_stage program turns only tables) failure
+  pub none_chosen : (rose : Type 0) (failure : Failure) → Err failure ≡ refused (chosen_in program.typed only) → ShowsFailure known rose (typed_stage program turns only tables) failure
   unfolding typed_stage
   none_chosen rose failure is =
-      fails_first known rose rose (decided (chosen_in program only)) on_chosen failure (λ r. r) (shows_decided known rose (chosen_in program only) failure (inr (sym is)))
+      fails_first known rose rose (decided (chosen_in program.typed only)) on_chosen failure (λ r. r) (shows_decided known rose (chosen_in program.typed only) failure (inr (sym is)))
 
   -- there is one, or all are put out
-  pub typed_shows : {X : Type 0} (view : X → List ℕ) (rose : Type 0) (chosen : Option ℕ) (result : Result X Failure) → Ok chosen ≡ refused (chosen_in program only)
+  pub typed_shows : {X : Type 0} (view : X → List ℕ) (rose : Type 0) (chosen : Option ℕ) (result : Result X Failure) → Ok chosen ≡ refused (chosen_in program.typed only)
       → Shows view known rose (tables_stage program turns chosen tables) result → Shows view known rose (typed_stage program turns only tables) result
   unfolding typed_stage
   typed_shows view rose chosen result is shown =
-      shows_whole view known rose rose (decided (chosen_in program only) >>= on_chosen) (on_chosen chosen) result (λ r. r)
-      (goes_next known (decided (chosen_in program only)) on_chosen chosen (gives_decided known (chosen_in program only) chosen (sym is))) shown
+      shows_whole view known rose rose (decided (chosen_in program.typed only) >>= on_chosen) (on_chosen chosen) result (λ r. r)
+      (goes_next known (decided (chosen_in program.typed only)) on_chosen chosen (gives_decided known (chosen_in program.typed only) chosen (sym is))) shown
 
 -- ---- the program of a file
 
-module _ (known : Option Files) (name : List ℕ) (turns : ℕ) (only : Option (List ℕ)) (tables : List (List ℕ)) where
+module _ (hosts : Hosts) (known : Option Files) (name : List ℕ) (turns : ℕ) (only : Option (List ℕ)) (tables : List (List ℕ)) where
   abbrev on_program : TypedProgram → Stage (List ℕ)
-  on_program program = typed_stage program turns only tables
+  on_program program = typed_stage (linked hosts.answer program) turns only tables
 
-  pub files_fail_first : (before mid now : ℕ) (failure : Failure) → mid ≤ now → ShowsFailure known (Rose before mid) (program_stage name) failure → ShowsFailure known (Rose before now) (files_stage name turns only tables) failure
+  pub files_fail_first : (before mid now : ℕ) (failure : Failure) → mid ≤ now → ShowsFailure known (Rose before mid) (program_stage hosts.names name) failure → ShowsFailure known (Rose before now) (files_stage hosts name turns only tables) failure
   unfolding files_stage
   files_fail_first before mid now failure le shown =
-      fails_first known (Rose before mid) (Rose before now) (program_stage name) on_program failure (λ r. omega arith) shown
+      fails_first known (Rose before mid) (Rose before now) (program_stage hosts.names name) on_program failure (λ r. omega arith) shown
 
-  pub files_show : {X : Type 0} (view : X → List ℕ) (known' : Option Files) (before mid now : ℕ) (program : TypedProgram) (result : Result X Failure) → IfSome known (λ files. (program_stage name).answer files ≡ Ok program)
-      → known' ≡ known → before ≤ mid → Shows view known' (Rose mid now) (typed_stage program turns only tables) result → Shows view known (Rose before now) (files_stage name turns only tables) result
+  pub files_show : {X : Type 0} (view : X → List ℕ) (known' : Option Files) (before mid now : ℕ) (program : TypedProgram) (result : Result X Failure) → IfSome known (λ files. (program_stage hosts.names name).answer files ≡ Ok program)
+      → known' ≡ known → before ≤ mid → Shows view known' (Rose mid now) (typed_stage (linked hosts.answer program) turns only tables) result → Shows view known (Rose before now) (files_stage hosts name turns only tables) result
   unfolding files_stage
   files_show view known' before mid now program result given same le shown =
-      shows_whole view known (Rose mid now) (Rose before now) (program_stage name >>= on_program) (on_program program) result (λ r. omega arith)
-      (goes_next known (program_stage name) on_program program given)
-      (subst (λ (f : Option Files). Shows view f (Rose mid now) (typed_stage program turns only tables) result) same shown)
+      shows_whole view known (Rose mid now) (Rose before now) (program_stage hosts.names name >>= on_program) (on_program program) result (λ r. omega arith)
+      (goes_next known (program_stage hosts.names name) on_program program given)
+      (subst (λ (f : Option Files). Shows view f (Rose mid now) (typed_stage (linked hosts.answer program) turns only tables) result) same shown)

@@ -5,6 +5,8 @@ use Rattle.hypergraph.specs.SetValue.{SetValue}
 use Rattle.hypergraph.specs.Sets.{count_over}
 use Rattle.typed_tree.specs.declared.program.TypedProgram.{TypedProgram}
 use Rattle.block_types.specs.Readings.{over}
+use Rattle.host_table.specs.declared.table.HostName.{HostName}
+use Rattle.algebra_meaning.specs.Linked.{LinkedProgram, linked}
 use Rattle.set_tables.specs.Table.{table_set}
 use Rattle.set_tables.specs.declared.faults.TableFault.{TableFault}
 use Rattle.write_back.specs.Schemas.{schema_of}
@@ -12,6 +14,7 @@ use Rattle.command_words.specs.Commands.{words_of}
 use Rattle.command_words.specs.declared.command.Words.{Words}
 use Rattle.command_words.specs.declared.command.Words.TheVariants.{Run, Plan, Plain, Make}
 use Rattle.command_words.specs.declared.command.WordsFault.{WordsFault}
+use Rattle.simit_run.specs.Hosts.{Hosts}
 use Rattle.simit_run.specs.MadeJob.{made_line}
 use Rattle.simit_run.specs.Output.{chosen_in, output_of}
 use Rattle.simit_run.specs.ProgramText.{typed_of}
@@ -21,9 +24,9 @@ use Rattle.run_notes.specs.declared.failure.Refusal.{Refusal}
 use Rattle.run_notes.specs.declared.failure.Refusal.TheVariants as refusal
 use Rattle.run_notes.specs.declared.failure.Refusal.TheVariants.{NotYet, FileCount, Table}
 
--- the typed program that the file of a name states
-unfoldable pub program_stage : List ℕ → Stage TypedProgram
-program_stage name = file role.Program name >>= λ source. decided (typed_of source)
+-- the typed program that the file of a name states, by the names of the host functions
+unfoldable pub program_stage : List HostName → List ℕ → Stage TypedProgram
+program_stage hosts name = file role.Program name >>= λ source. decided (typed_of hosts source)
 
 -- the names of the tables' files, where there are as many as sets
 unfoldable pub names_for : TypedProgram → List (List ℕ) → Result (List (List ℕ)) Refusal
@@ -53,31 +56,31 @@ abbrev pub with_set : TypedProgram → List SetValue → List ℕ → Stage (Lis
 with_set program sets name = set_stage program sets name >>= λ set. decided (Ok (sets ++ set ∷ []))
 
 -- the output of a program with so many turns, of all sets or of the chosen one, from the files of its tables
-unfoldable pub tables_stage : TypedProgram → ℕ → Option ℕ → List (List ℕ) → Stage (List ℕ)
+unfoldable pub tables_stage : LinkedProgram → ℕ → Option ℕ → List (List ℕ) → Stage (List ℕ)
 tables_stage program turns chosen tables = do
-  names ← decided (names_for program tables)
-  sets ← fold_stages (with_set program) [] names
+  names ← decided (names_for program.typed tables)
+  sets ← fold_stages (with_set program.typed) [] names
   decided (output_of program turns chosen sets)
 
 -- the same, where the set is chosen by its name
-unfoldable pub typed_stage : TypedProgram → ℕ → Option (List ℕ) → List (List ℕ) → Stage (List ℕ)
-typed_stage program turns only tables = decided (chosen_in program only) >>= λ chosen. tables_stage program turns chosen tables
+unfoldable pub typed_stage : LinkedProgram → ℕ → Option (List ℕ) → List (List ℕ) → Stage (List ℕ)
+typed_stage program turns only tables = decided (chosen_in program.typed only) >>= λ chosen. tables_stage program turns chosen tables
 
 -- the same of the program that a file states
-unfoldable pub files_stage : List ℕ → ℕ → Option (List ℕ) → List (List ℕ) → Stage (List ℕ)
-files_stage name turns only tables = program_stage name >>= λ program. typed_stage program turns only tables
+unfoldable pub files_stage : Hosts → List ℕ → ℕ → Option (List ℕ) → List (List ℕ) → Stage (List ℕ)
+files_stage hosts name turns only tables = program_stage hosts.names name >>= λ program. typed_stage (linked hosts.answer program) turns only tables
 
 -- the output of a command; by how many workers it runs, how many words they may hold, and whether it runs plainly makes no difference to it
-unfoldable pub command_stage : Words → Stage (List ℕ)
-command_stage (Run program tables workers turns held only) = files_stage program turns only tables
-command_stage (Plan program tables held) = decided (Err NotYet)
-command_stage (Plain program tables turns only) = files_stage program turns only tables
-command_stage (Make seed points workers) = decided (made_line seed points)
+unfoldable pub command_stage : Hosts → Words → Stage (List ℕ)
+command_stage hosts (Run program tables workers turns held only) = files_stage hosts program turns only tables
+command_stage hosts (Plan program tables held) = decided (Err NotYet)
+command_stage hosts (Plain program tables turns only) = files_stage hosts program turns only tables
+command_stage hosts (Make seed points workers) = decided (made_line hosts seed points)
 
 -- the command that the words state; no definition runs out of memory
 abbrev pub stated : Result Words WordsFault → Result Words Refusal
 stated result = result_map_both (λ x. x) (λ fault. refusal.Words) result
 
--- the program's answer to its words: its output, or why there is none
-unfoldable pub answer_of : List (List ℕ) → Stage (List ℕ)
-answer_of words = decided (stated (words_of words)) >>= command_stage
+-- the program's answer to its words, with what the host brings: its output, or why there is none
+unfoldable pub answer_of : Hosts → List (List ℕ) → Stage (List ℕ)
+answer_of hosts words = decided (stated (words_of words)) >>= command_stage hosts

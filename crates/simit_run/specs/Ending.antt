@@ -17,6 +17,7 @@ use Rattle.run_notes.specs.declared.failure.Refusal.TheVariants as refusal
 use Rattle.run_notes.specs.declared.failure.Failure.{Failure}
 use Rattle.run_notes.specs.declared.failure.Failure.TheVariants.{Memory, ReadFault, Refused}
 use Rattle.simit_run.specs.Answer.{answer_of}
+use Rattle.simit_run.specs.Hosts.{Hosts}
 use Rattle.simit_run.specs.declared.status.Status.{Status}
 use Rattle.simit_run.specs.declared.status.Status.TheVariants as status
 
@@ -74,12 +75,12 @@ cut_off prefix = record { status = status.WriteFault; out = prefix; note = write
 
 -- The endings that are allowed, where the inputs hold these files: the answer's own; out of memory; a counted fault at
 -- one of the files that the answer comes to read; or, where the answer is an output, a counted fault of the sink.
-abbrev pub MayEnd : List (List ℕ) → Files → Type 0 → Type 0 → Ending → Type 0
-MayEnd words files inputs_rose out_rose ending =
-    (ending ≡ ending_of words ((answer_of words).answer files))
+abbrev pub MayEnd : Hosts → List (List ℕ) → Files → Type 0 → Type 0 → Ending → Type 0
+MayEnd hosts words files inputs_rose out_rose ending =
+    (ending ≡ ending_of words ((answer_of hosts words).answer files))
     ⊎ (ending ≡ ending_of words (Err Memory))
-    ⊎ ((role : FileRole) × inputs_rose × Contains ((answer_of words).reads files) role × (ending ≡ ending_of words (Err (ReadFault role))))
-    ⊎ ((text prefix : List ℕ) × out_rose × ((answer_of words).answer files ≡ Ok text) × IsPrefixOf prefix text × (ending ≡ cut_off prefix))
+    ⊎ ((role : FileRole) × inputs_rose × Contains ((answer_of hosts words).reads files) role × (ending ≡ ending_of words (Err (ReadFault role))))
+    ⊎ ((text prefix : List ℕ) × out_rose × ((answer_of hosts words).answer files ≡ Ok text) × IsPrefixOf prefix text × (ending ≡ cut_off prefix))
 
 -- what shows an ending: the status that is answered, and what was put to the two sinks
 pub record IsShown (ending : Ending) (answered : Status) (out_before out_after notes_before notes_after : Option (List ℕ)) (notes_rose : Type 0) : Type 0 where

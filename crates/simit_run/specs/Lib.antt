@@ -1,3 +1,4 @@
+pub mod Hosts
 pub mod Status
 pub mod Stage
 pub mod ProgramText

@@ -9,6 +9,8 @@ use Rattle.job_maker.specs.Job.{made_sets}
 use Rattle.job_maker.specs.Program as job
 use Rattle.job_maker.specs.Weighted.{weighted_sum}
 use Rattle.command_words.specs.declared.number.TheConstants.{DEFAULT_TURNS}
+use Rattle.algebra_meaning.specs.Linked.{linked}
+use Rattle.simit_run.specs.Hosts.{Hosts}
 use Rattle.simit_run.specs.ProgramText.{typed_of}
 use Rattle.simit_run.specs.Running.{sets_after}
 use Rattle.run_notes.specs.declared.failure.Refusal.{Refusal}
@@ -20,8 +22,8 @@ job_line points after = concat (
     ∷ codes " weighted " ∷ text 0 (weighted_sum (column_at (set_at after 0) 1)) ∷ codes "\n" ∷ [])
 
 -- the line of the job of a seed and a number of points, whose program runs on the sets that are made; or why there is none
-unfoldable pub made_line : ℕ → ℕ → Result (List ℕ) Refusal
-made_line seed points = do
-  program ← typed_of job.program
-  after ← sets_after program DEFAULT_TURNS (made_sets seed points)
+unfoldable pub made_line : Hosts → ℕ → ℕ → Result (List ℕ) Refusal
+made_line hosts seed points = do
+  program ← typed_of hosts.names job.program
+  after ← sets_after (linked hosts.answer program) DEFAULT_TURNS (made_sets seed points)
   Ok (job_line points after)

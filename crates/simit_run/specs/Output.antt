@@ -6,6 +6,7 @@ use Rattle.vocabulary.specs.Answers.{◌>>=◌}
 use Rattle.hypergraph.specs.SetValue.{SetValue}
 use Rattle.hypergraph.specs.Sets.{set_at}
 use Rattle.typed_tree.specs.declared.program.TypedProgram.{TypedProgram}
+use Rattle.algebra_meaning.specs.Linked.{LinkedProgram}
 use Rattle.block_types.specs.Readings.{find_set}
 use Rattle.set_tables.specs.Output.{table_text}
 use Rattle.set_tables.specs.declared.schema.Schema.{Schema}
@@ -35,5 +36,5 @@ chosen_texts (Some number) schemas sets = table_text (schema_at schemas number) 
 
 -- the text that is put out: the tables of the sets after the program, in the order of their declarations, or of the one that is chosen;
 -- or why there is none
-unfoldable pub output_of : TypedProgram → ℕ → Option ℕ → List SetValue → Result (List ℕ) Refusal
-output_of program turns chosen sets = sets_after program turns sets >>= λ after. Ok (chosen_texts chosen (schemas_of program) after)
+unfoldable pub output_of : LinkedProgram → ℕ → Option ℕ → List SetValue → Result (List ℕ) Refusal
+output_of program turns chosen sets = sets_after program turns sets >>= λ after. Ok (chosen_texts chosen (schemas_of program.typed) after)

@@ -8,6 +8,7 @@ use Rattle.sim_lexer.specs.declared.token.LexFault.{LexFault}
 use Rattle.sim_grammar.specs.ReadProgram.{program_in}
 use Rattle.sim_grammar.specs.Rule.{line_of}
 use Rattle.chain_forms.specs.Lowered.{lowered}
+use Rattle.host_table.specs.declared.table.HostName.{HostName}
 use Rattle.sim_syntax.specs.declared.program.Program as tree
 use Rattle.typed_tree.specs.Typed.{typed}
 use Rattle.typed_tree.specs.declared.program.TypedProgram.{TypedProgram}
@@ -43,10 +44,10 @@ tree_of source = do
   ts ← lexical source (tokens source)
   syntactic (words_of source ts) (program_in (words_of source ts))
 
--- the typed program of a text, or the first reason why it has none: it has no tree, an index expression that isn't in chain form,
+-- the typed program of a text, by the names of the host functions, or the first reason why it has none: it has no tree, an index expression that isn't in chain form,
 -- or a node without a type once its index expressions are products
-unfoldable pub typed_of : List ℕ → Result TypedProgram Refusal
-typed_of source = do
+unfoldable pub typed_of : List HostName → List ℕ → Result TypedProgram Refusal
+typed_of hosts source = do
   tree ← tree_of source
   program ← chained (lowered tree)
-  typing (typed program)
+  typing (typed hosts program)

@@ -6,8 +6,10 @@ ghost use Rattle.vocabulary.specs.Answers.{Answers};
 ghost use Rattle.simit_io.specs.Inputs.{IsMissing, Rose};
 ghost use Rattle.hypergraph.specs.SetValue.{EndpointsBelow};
 ghost use Rattle.hypergraph.specs.Sets.{AllLieOverEarlier, endpoint_bound, set_at};
+ghost use Rattle.algebra_meaning.specs.Linked.{linked};
 ghost use Rattle.simit_run.specs.Answer as spec;
 ghost use Rattle.simit_run.specs.Ending.{first_file};
+ghost use Rattle.simit_run.specs.Hosts.{hosts_of};
 ghost use Rattle.simit_run.specs.Output as out;
 ghost use Rattle.command_words.specs.Job.{HasPoints};
 ghost use Rattle.simit_run.specs.CommandContracts.{text_of};
@@ -23,6 +25,7 @@ use crate::running::{Engine, Manner, sets_after};
 use crate::tables::{read_sets, schemas_of};
 use block_types::Typed;
 use command_words::Words;
+use host_table::{HostMeaning, HostTable};
 use hypergraph::{SetData, Sets};
 use run_notes::{Failure, FileRole, Refusal};
 use set_tables::Schema;
@@ -46,8 +49,9 @@ fn sets_of(list: Vec<SetData>) -> Sets
 
 /// What is put out of the sets that were read, once the program has run on them.
 #[tactic(auto, unfolding(crate::specs::Output::output_of))]
-fn output_of(
+fn output_of<H: HostMeaning>(
     alloc: Global,
+    hosts: &HostTable<H>,
     typed: &Typed,
     manner: Manner,
     chosen: Option<u32>,
@@ -59,17 +63,18 @@ fn output_of(
     requires schemas { schemas.items ≡ out.schemas_of typed.now }
     requires read { AreRead typed.now list.items }
     requires all { length list.items ≡ length typed.now.sets }
-    ensures { Answers Failure.Memory (refused (out.output_of typed.now manner.turns chosen list.items)) result }
+    ensures { Answers Failure.Memory (refused (out.output_of (linked H.answer typed.now) manner.turns chosen list.items)) result }
 {
-    let after = sets_after(alloc, typed, manner, sets_of(list))?;
+    let after = sets_after(alloc, hosts, typed, manner, sets_of(list))?;
     let output = Tables::of(alloc, chosen, schemas, after).map_err(|_| Failure::Memory)?;
     Ok(output)
 }
 
 /// The output of a program, of all sets or of the chosen one, from the files of its tables.
-fn run_on_tables<I: Inputs>(
+fn run_on_tables<I: Inputs, H: HostMeaning>(
     alloc: Global,
     inputs: &mut I,
+    hosts: &HostTable<H>,
     typed: &Typed,
     manner: Manner,
     chosen: Option<u32>,
@@ -77,7 +82,7 @@ fn run_on_tables<I: Inputs>(
 ) -> Result<Tables, Failure>
     requires { IfSome chosen (λ number. number < length typed.now.sets) }
     ensures shows { Shows (λ output. output) (I.holds inputs.old) (Rose (I.faults inputs.old) (I.faults inputs.new))
-        (spec.tables_stage typed.now manner.turns chosen names.now) result }
+        (spec.tables_stage (linked H.answer typed.now) manner.turns chosen names.now) result }
     ensures same_files { I.holds inputs.new ≡ I.holds inputs.old }
     ensures counted { I.faults inputs.old ≤ I.faults inputs.new }
 {
@@ -90,55 +95,62 @@ fn run_on_tables<I: Inputs>(
     }
     let schemas = schemas_of(alloc, typed).map_err(|_| Failure::Memory)?;
     let read = read_sets(alloc, inputs, typed, &schemas, names)?;
-    let output = output_of(alloc, typed, manner, chosen, schemas, read)?;
+    let output = output_of(alloc, hosts, typed, manner, chosen, schemas, read)?;
     Ok(output)
 }
 
 /// The output of a program, of all sets or of the one of a name, from the files of its tables.
-fn run_typed<I: Inputs>(
+fn run_typed<I: Inputs, H: HostMeaning>(
     alloc: Global,
     inputs: &mut I,
+    hosts: &HostTable<H>,
     typed: &Typed,
     manner: Manner,
     only: &Option<Text>,
     names: &[Text],
 ) -> Result<Tables, Failure>
     ensures shows { Shows (λ output. output) (I.holds inputs.old) (Rose (I.faults inputs.old) (I.faults inputs.new))
-        (spec.typed_stage typed.now manner.turns only.now names.now) result }
+        (spec.typed_stage (linked H.answer typed.now) manner.turns only.now names.now) result }
     ensures same_files { I.holds inputs.new ≡ I.holds inputs.old }
     ensures counted { I.faults inputs.old ≤ I.faults inputs.new }
 {
     let chosen = chosen_in(typed, only)?;
-    let output = run_on_tables(alloc, inputs, typed, manner, chosen, names)?;
+    let output = run_on_tables(alloc, inputs, hosts, typed, manner, chosen, names)?;
     Ok(output)
 }
 
 /// The output of the program that a file states, from the files of its tables.
-fn run_files<I: Inputs>(
+fn run_files<I: Inputs, H: HostMeaning>(
     alloc: Global,
     inputs: &mut I,
+    hosts: &HostTable<H>,
     program: &Text,
     manner: Manner,
     only: &Option<Text>,
     tables: &[Text],
 ) -> Result<Tables, Failure>
     ensures shows { Shows (λ output. output) (I.holds inputs.old) (Rose (I.faults inputs.old) (I.faults inputs.new))
-        (spec.files_stage program.now manner.turns only.now tables.now) result }
+        (spec.files_stage (hosts_of H.answer hosts.now) program.now manner.turns only.now tables.now) result }
     ensures missing { IsMissing (I.holds inputs.old) program.now → result ≡ Err (Failure.ReadFault FileRole.Program) }
     ensures same_files { I.holds inputs.new ≡ I.holds inputs.old }
     ensures counted { I.faults inputs.old ≤ I.faults inputs.new }
 {
-    let typed = read_program(alloc, inputs, program.as_str())?;
-    let output = run_typed(alloc, inputs, &typed, manner, only, tables)?;
+    let typed = read_program(alloc, inputs, program.as_str(), hosts)?;
+    let output = run_typed(alloc, inputs, hosts, &typed, manner, only, tables)?;
     Ok(output)
 }
 
-/// The output of a command, or why there is none.
+/// The output of a command, whose program may call these host functions, or why there is none.
 #[tactic(auto, unfolding(crate::specs::Answer::command_stage))]
-pub fn answer<I: Inputs>(alloc: Global, inputs: &mut I, words: &Words) -> Result<Output, Failure>
+pub fn answer<I: Inputs, H: HostMeaning>(
+    alloc: Global,
+    inputs: &mut I,
+    hosts: &HostTable<H>,
+    words: &Words,
+) -> Result<Output, Failure>
     requires { HasPoints words.now }
     ensures shows { Shows text_of (I.holds inputs.old) (Rose (I.faults inputs.old) (I.faults inputs.new))
-        (spec.command_stage words.now) result }
+        (spec.command_stage (hosts_of H.answer hosts.now) words.now) result }
     ensures missing { (name : List ℕ) → first_file (Ok words.now) ≡ Some name → IsMissing (I.holds inputs.old) name
         → result ≡ Err (Failure.ReadFault FileRole.Program) }
     ensures same_files { I.holds inputs.new ≡ I.holds inputs.old }
@@ -156,7 +168,7 @@ pub fn answer<I: Inputs>(alloc: Global, inputs: &mut I, words: &Words) -> Result
                 engine: Engine::Words,
                 turns: *turns,
             };
-            match run_files(alloc, inputs, program, manner, only, sets.items()) {
+            match run_files(alloc, inputs, hosts, program, manner, only, sets.items()) {
                 Ok(tables) => Ok(Output::Tables(tables)),
                 Err(failure) => Err(failure),
             }
@@ -172,12 +184,12 @@ pub fn answer<I: Inputs>(alloc: Global, inputs: &mut I, words: &Words) -> Result
                 engine: Engine::Plain,
                 turns: *turns,
             };
-            match run_files(alloc, inputs, program, manner, only, sets.items()) {
+            match run_files(alloc, inputs, hosts, program, manner, only, sets.items()) {
                 Ok(tables) => Ok(Output::Tables(tables)),
                 Err(failure) => Err(failure),
             }
         }
-        Words::Make { seed, n, .. } => match made_line(alloc, *seed, *n) {
+        Words::Make { seed, n, .. } => match made_line(alloc, hosts, *seed, *n) {
             Ok(line) => Ok(Output::Line(line)),
             Err(failure) => Err(failure),
         },

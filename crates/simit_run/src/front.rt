@@ -1,7 +1,7 @@
 //! From the program's file to the typed program: its tokens, the tree that they derive, the program that this is lowered to, and
 //! its types.
 
-ghost use Rattle.std.specs.Prelude.{◌≡◌, ◌≤◌, All, IfOk, drop, length};
+ghost use Rattle.std.specs.Prelude.{◌≡◌, ◌≤◌, All, IfOk, drop, length, map};
 ghost use Rattle.vocabulary.specs.Answers.{Answers};
 ghost use Rattle.simit_io.specs.Inputs.{IsMissing, Rose};
 ghost use Rattle.sim_lexer.specs.Tokens.{EndsOnce, IsSpelled, LiesIn, tokens};
@@ -9,6 +9,7 @@ ghost use Rattle.sim_lexer.specs.Words.{words_of};
 ghost use Rattle.sim_grammar.specs.ReadProgram.{program_in};
 ghost use Rattle.sim_grammar.specs.Rule.{line_of};
 ghost use Rattle.chain_forms.specs.Lowered.{lowered};
+ghost use Rattle.host_table.specs.Hosts.{name_of};
 ghost use Rattle.typed_tree.specs.Typed.{typed};
 ghost use Rattle.simit_run.specs.Answer as spec;
 ghost use Rattle.simit_run.specs.ProgramText as text;
@@ -17,6 +18,7 @@ ghost use Rattle.simit_run.specs.Stage.{refused};
 
 use crate::file::read_file;
 use block_types::{Typed, check};
+use host_table::{HostMeaning, HostName, HostTable};
 use index_notation::{LowerFault, lower};
 use run_notes::{Failure, FileRole, Refusal, offset_of};
 use sim_lexer::{LexFault, Token, Tokens, lex, line_at};
@@ -85,11 +87,11 @@ fn lowered_of(alloc: Global, tree: sim_syntax::Program) -> Result<Lowered, Failu
     }
 }
 
-/// The program with its types.
-fn typed_of(alloc: Global, program: Lowered) -> Result<Typed, Failure>
-    ensures { Answers Failure.Memory (refused (text.typing (typed program))) result }
+/// The program with its types, by the names of the host functions.
+fn typed_of(alloc: Global, program: Lowered, hosts: &[HostName]) -> Result<Typed, Failure>
+    ensures { Answers Failure.Memory (refused (text.typing (typed hosts.now program))) result }
 {
-    match check(alloc, program) {
+    match check(alloc, program, hosts) {
         Ok(typed) => Ok(typed),
         Err(CheckFault::Memory) => Err(Failure::Memory),
         Err(CheckFault::IllTyped { line, kind }) => {
@@ -109,27 +111,47 @@ fn tree_in(alloc: Global, source: &[u8]) -> Result<sim_syntax::Program, Failure>
     Ok(tree)
 }
 
-/// The typed program of a text.
+/// The typed program of a text, by the names of the host functions.
 #[tactic(auto, unfolding(crate::specs::ProgramText::typed_of))]
-pub fn typed_in(alloc: Global, source: &[u8]) -> Result<Typed, Failure>
+fn typed_by(alloc: Global, source: &[u8], hosts: &[HostName]) -> Result<Typed, Failure>
     requires { length source.now ≤ MOST_PROGRAM_BYTES }
-    ensures { Answers Failure.Memory (refused (text.typed_of source.now)) result }
+    ensures { Answers Failure.Memory (refused (text.typed_of hosts.now source.now)) result }
 {
     let tree = tree_in(alloc, source)?;
     let program = lowered_of(alloc, tree)?;
-    let typed = typed_of(alloc, program)?;
+    let typed = typed_of(alloc, program, hosts)?;
     Ok(typed)
 }
 
-/// The typed program that the file of a name states.
-pub fn read_program<I: Inputs>(alloc: Global, inputs: &mut I, name: &str) -> Result<Typed, Failure>
+/// The typed program of a text that may call these host functions.
+pub fn typed_in<H: HostMeaning>(
+    alloc: Global,
+    source: &[u8],
+    hosts: &HostTable<H>,
+) -> Result<Typed, Failure>
+    requires { length source.now ≤ MOST_PROGRAM_BYTES }
+    ensures { Answers Failure.Memory (refused (text.typed_of (map name_of hosts.now) source.now)) result }
+{
+    let Ok(names) = hosts.names(alloc) else {
+        return Err(Failure::Memory);
+    };
+    typed_by(alloc, source, &names)
+}
+
+/// The typed program that the file of a name states, which may call these host functions.
+pub fn read_program<I: Inputs, H: HostMeaning>(
+    alloc: Global,
+    inputs: &mut I,
+    name: &str,
+    hosts: &HostTable<H>,
+) -> Result<Typed, Failure>
     ensures shows { Shows (λ program. program) (I.holds inputs.old) (Rose (I.faults inputs.old) (I.faults inputs.new))
-        (spec.program_stage name.now) result }
+        (spec.program_stage (map name_of hosts.now) name.now) result }
     ensures missing { IsMissing (I.holds inputs.old) name.now → result ≡ Err (Failure.ReadFault FileRole.Program) }
     ensures same_files { I.holds inputs.new ≡ I.holds inputs.old }
     ensures counted { I.faults inputs.old ≤ I.faults inputs.new }
 {
     let source = read_file(alloc, inputs, name, FileRole::Program)?;
-    let program = typed_in(alloc, &source)?;
+    let program = typed_in(alloc, &source, hosts)?;
     Ok(program)
 }

@@ -6,12 +6,14 @@ ghost use Rattle.vocabulary.specs.Answers.{Answers};
 ghost use Rattle.ring_words.specs.Cell as cell;
 ghost use Rattle.hypergraph.specs.Sets.{set_at};
 ghost use Rattle.job_maker.specs.declared.made.TheConstants.{MOST_POINTS};
+ghost use Rattle.simit_run.specs.Hosts.{hosts_of};
 ghost use Rattle.simit_run.specs.MadeJob.{job_line, made_line};
 ghost use Rattle.simit_run.specs.Stage.{refused};
 
 use crate::front::typed_in;
 use crate::running::{Engine, Manner, sets_after};
 use command_words::DEFAULT_TURNS;
+use host_table::{HostMeaning, HostTable};
 use itoa::Buffer;
 use job_maker::{make, weighted};
 use ring_words::{cell_len, write_cell};
@@ -47,20 +49,25 @@ fn line_of(alloc: Global, points: u32, sum: u64) -> Result<Vec<u8>, AllocError>
 
 /// The line of the job of a seed and a number of points, once its program has run on its sets.
 #[tactic(auto, unfolding(crate::specs::MadeJob::made_line))]
-pub fn made_line(alloc: Global, seed: u32, points: u32) -> Result<L<u8>, Failure>
+pub fn made_line<H: HostMeaning>(
+    alloc: Global,
+    hosts: &HostTable<H>,
+    seed: u32,
+    points: u32,
+) -> Result<L<u8>, Failure>
     requires some { 1 ≤ points }
     requires few { points ≤ MOST_POINTS }
-    ensures { Answers Failure.Memory (refused (made_line seed points)) result }
+    ensures { Answers Failure.Memory (refused (made_line (hosts_of H.answer hosts.now) seed points)) result }
 {
     let Ok(job) = make(alloc, seed, points) else {
         return Err(Failure::Memory);
     };
-    let typed = typed_in(alloc, job.program.items())?;
+    let typed = typed_in(alloc, job.program.items(), hosts)?;
     let manner = Manner {
         engine: Engine::Words,
         turns: DEFAULT_TURNS,
     };
-    let after = sets_after(alloc, &typed, manner, job.sets)?;
+    let after = sets_after(alloc, hosts, &typed, manner, job.sets)?;
     let Ok(line) = line_of(alloc, points, weighted(&after)) else {
         return Err(Failure::Memory);
     };

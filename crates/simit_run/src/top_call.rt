@@ -6,12 +6,14 @@ ghost use Rattle.command_words.specs.Commands.{words_of};
 ghost use Rattle.run_notes.specs.Notes.{PutsNote, memory_note, usage_note, write_fault_note};
 ghost use Rattle.command_words.specs.declared.command.WordsFault.TheVariants.{Refused};
 ghost use Rattle.command_words.specs.Job.{HasPoints};
+ghost use Rattle.simit_run.specs.Hosts.{hosts_of};
 ghost use Rattle.simit_run.specs.Ending.{Ending, IsShown, MayEnd, first_file, refusal_status, status_of, stop_status};
 
 use crate::answering::answer;
 use crate::status::Status;
 use algebra_meaning::Stop;
 use command_words::{Words, WordsFault, read};
+use host_table::{HostMeaning, HostTable};
 use run_notes::{Failure, Refusal, put_memory, put_note, put_usage, put_write_fault};
 use simit_io::{Failed, Inputs, Sink, putting_law};
 use std::alloc::Global;
@@ -57,16 +59,17 @@ fn status_of(failure: Failure) -> Status
 }
 
 /// Does what the words of a command ask for, and puts its output or its note line.
-fn carry_out<I: Inputs, O: Sink, N: Sink>(
+fn carry_out<I: Inputs, O: Sink, N: Sink, H: HostMeaning>(
     alloc: Global,
     words: &Words,
     inputs: &mut I,
     out: &mut O,
     notes: &mut N,
+    hosts: &HostTable<H>,
 ) -> Status
     requires { HasPoints words.now }
     ensures ending { (texts : List (List ℕ)) → words_of texts ≡ Ok words.now → IfSome (I.holds inputs.old) (λ files. (ending : Ending)
-        × MayEnd texts files (Rose (I.faults inputs.old) (I.faults inputs.new)) (Rose (O.faults out.old) (O.faults out.new)) ending
+        × MayEnd (hosts_of H.answer hosts.now) texts files (Rose (I.faults inputs.old) (I.faults inputs.new)) (Rose (O.faults out.old) (O.faults out.new)) ending
         × IsShown ending result (O.written out.old) (O.written out.new) (N.written notes.old) (N.written notes.new) (Rose (N.faults notes.old) (N.faults notes.new))) }
     ensures read_fault { IfNone (I.holds inputs.old) (result ≡ Status.ReadFault → Rose (I.faults inputs.old) (I.faults inputs.new)) }
     ensures write_fault { result ≡ Status.WriteFault → Rose (O.faults out.old) (O.faults out.new)
@@ -79,7 +82,7 @@ fn carry_out<I: Inputs, O: Sink, N: Sink>(
     ensures counted { (I.faults inputs.old ≤ I.faults inputs.new) × (O.faults out.old ≤ O.faults out.new) × (N.faults notes.old ≤ N.faults notes.new) }
 {
     putting_law();
-    match answer(alloc, inputs, words) {
+    match answer(alloc, inputs, hosts, words) {
         Ok(output) => match output.put(out) {
             Ok(()) => Status::Done,
             Err(Failed) => {
@@ -99,18 +102,20 @@ fn carry_out<I: Inputs, O: Sink, N: Sink>(
 /// The words are `run PROGRAM SETS..`, `plain PROGRAM SETS..` or `make SEED N`, with options; `plan PROGRAM SETS..` is read and
 /// then refused. The program's file is read and judged before a table's file is opened, and each table before the next; nothing
 /// is put to `out` before the run has ended. Where there is no output, be it that something is refused, that the run
-/// traps or that its turns are spent, a line that says why is put to `notes`.
-pub fn run<I: Inputs, O: Sink, N: Sink>(
+/// traps or that its turns are spent, a line that says why is put to `notes`. The program may declare and call the host
+/// functions of `hosts`; one that it doesn't call makes no difference.
+pub fn run<I: Inputs, O: Sink, N: Sink, H: HostMeaning>(
     alloc: Global,
     words: &[String],
     inputs: &mut I,
     out: &mut O,
     notes: &mut N,
+    hosts: &HostTable<H>,
 ) -> Status
-    // Where the inputs' files are known, the call ends as the program's answer to the words and these files,
-    // or out of memory, or by a counted fault.
+    // Where the inputs' files are known, the call ends as the program's answer to the words, these files and what the
+    // host functions answer, or out of memory, or by a counted fault.
     ensures ending { IfSome (I.holds inputs.old) (λ files. (ending : Ending)
-        × MayEnd (map string_bytes words.now) files (Rose (I.faults inputs.old) (I.faults inputs.new)) (Rose (O.faults out.old) (O.faults out.new)) ending
+        × MayEnd (hosts_of H.answer hosts.now) (map string_bytes words.now) files (Rose (I.faults inputs.old) (I.faults inputs.new)) (Rose (O.faults out.old) (O.faults out.new)) ending
         × IsShown ending result (O.written out.old) (O.written out.new) (N.written notes.old) (N.written notes.new) (Rose (N.faults notes.old) (N.faults notes.new))) }
 
     // Whether or not they are known: each fault has its cause, and its note line, which needs no file's bytes.
@@ -133,7 +138,7 @@ pub fn run<I: Inputs, O: Sink, N: Sink>(
 {
     putting_law();
     match read(alloc, words) {
-        Ok(words) => carry_out(alloc, &words, inputs, out, notes),
+        Ok(words) => carry_out(alloc, &words, inputs, out, notes, hosts),
         Err(WordsFault::Refused) => {
             put_usage(notes);
             Status::Refused

@@ -1,8 +1,8 @@
 //! Commands with their options: turns, the one set that is put out, the plain run, plans and made jobs.
-use crate::calls::{Call, assert_end, done, ended, files_of};
 use simit_run::Status;
 use std::process::Abort;
 use std::test::Fail;
+use test_calls::{Call, assert_end, done, ended, files_of};
 use worked_texts::{HEAD, POINTS, PULL, PULLED, SPRINGS};
 
 const USAGE: &str = "usage: simit run|plan|plain PROGRAM SETS.. or simit make SEED N\n";

@@ -1,9 +1,9 @@
 //! Faults of the inputs and of the sinks: each call that fails in turn, and that none follows it or a refusal.
-use crate::calls::{Call, End, assert_end, done, ended, files_of, refused};
 use simit_run::Status;
 use std::alloc::{AllocError, Global};
 use std::process::Abort;
 use std::test::Fail;
+use test_calls::{Call, End, assert_end, done, ended, files_of, refused};
 use worked_texts::{BROKEN_OFF, HEAD, POINTS, PULL, PULLED, SPRINGS};
 
 const WORDS: [&str; 4] = ["run", "a.sim", "points.csv", "springs.csv"];

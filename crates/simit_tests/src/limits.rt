@@ -1,8 +1,7 @@
 //! The limits on files, on the rows of a table and on dense words, each at its last value and one past it.
-use crate::calls::{assert_over_points, done, ended, refused};
-use crate::runs::assert_run;
 use simit_run::Status;
 use std::test::Fail;
+use test_calls::{assert_over_points, assert_run, done, ended, refused};
 use worked_texts::{POINTS_AND_SPRINGS, STIFF};
 
 const PROGRAM: &[u8] =

@@ -1,6 +1,6 @@
 //! Programs over points: what they print, how they may be written, and that others are refused.
-use crate::calls::{assert_over_points, done, refused};
 use std::test::Fail;
+use test_calls::{assert_over_points, done, refused};
 
 /// Statements, a table, and what is printed.
 static PRINTED: [(&str, &[u8], &str); 15] = [

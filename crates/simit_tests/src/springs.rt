@@ -1,7 +1,7 @@
 //! Programs over points and springs: what they print, and the tables that are none of their sets.
-use crate::calls::{Call, End, assert_end, done, files_of, refused};
 use std::process::Abort;
 use std::test::Fail;
+use test_calls::{Call, End, assert_end, done, files_of, refused};
 use worked_texts::{HEAD, POINTS, PULL, PULLED, SPRINGS};
 
 /// Asserts how `run a.sim points.csv springs.csv` ends over a program in two parts and two tables, by takes and puts

@@ -1,7 +1,7 @@
 //! Command words, the names of files, and the numbers of the statuses.
-use crate::calls::{Call, assert_end, done, ended};
 use simit_run::Status;
 use std::test::Fail;
+use test_calls::{Call, assert_end, done, ended};
 
 const PROGRAM: &[u8] =
     b"element Point x: int(0); end extern points: set{Point}; proc main points.x = points.x + points.x; end";

@@ -1,6 +1,6 @@
 -- One rule for each form of expression: from the types of its parts to its own, or the first kind of fault that applies.
 use Rattle.std.specs.Prelude.{ℕ, zero, suc, ◌+◌, ◌-◌, ◌==◌, nat_lt, min, length, Bool, true, false, not, ◌&&◌, ◌||◌, if◌then◌else◌, List, [], ◌∷◌, Option, Some, None, Result, Ok, Err}
-use Rattle.std.specs.List.{list_all, list_any}
+use Rattle.std.specs.List.{list_all, list_any, zip}
 use Rattle.vocabulary.specs.declared.limits.TheConstants.{MOST_SCALE, MOST_SCALE_CHANGE, MOST_FIELD_SCALE, MOST_SIDE}
 use Rattle.type_rules.specs.declared.types.BlockShape.{BlockShape}
 use Rattle.type_rules.specs.declared.types.BlockShape.TheVariants.{Number, Vector, Matrix}
@@ -268,6 +268,21 @@ has_rank (SystemMatrix rows columns block scale) rank = rank == 2
 -- a reference with so many indices
 unfoldable pub rank_rule : NodeType → ℕ → Result NodeType TypeKind
 rank_rule type rank = judged ((kind.Shape, not (has_rank type rank)) ∷ []) type
+
+-- ---- calls
+
+-- the arguments are numbers, as many as there are scales
+abbrev pub are_numbers : List ℕ → List NodeType → Bool
+are_numbers scales args = (length args == length scales) && list_all is_scalar args
+
+-- the arguments have these scales
+abbrev pub have_scales : List ℕ → List NodeType → Bool
+have_scales scales args = list_all (λ pair. pair.0 == scale_of pair.1) (zip scales args)
+
+-- a call with numbers of these scales, which gives a number of that scale
+unfoldable pub call_rule : List ℕ → ℕ → List NodeType → Result NodeType TypeKind
+call_rule scales scale args =
+    judged ((kind.Shape, not (are_numbers scales args)) ∷ (kind.Scale, not (have_scales scales args)) ∷ []) (Local Number scale)
 
 -- ---- declarations
 

@@ -3,6 +3,7 @@
 #![tactic(auto)]
 
 mod blocks;
+mod calls;
 mod declarations;
 mod order;
 mod products;
@@ -11,6 +12,7 @@ mod sums;
 mod types;
 
 pub use blocks::{block_rule, has_unknown, is_outside, part_rule, rank_rule, transposed_rule};
+pub use calls::{are_numbers, call_rule, have_scales};
 pub use declarations::declared_rule;
 pub use order::earlier;
 pub use products::{dot_rule, entrywise_rule, product_rule};

@@ -1,5 +1,6 @@
 //! What `check` answers about a text.
 use block_types::{Typed, check};
+use main_hosts::main_hosts;
 use sim_lexer::lex;
 use sim_parser::parse;
 use sim_syntax::Lowered;
@@ -12,7 +13,8 @@ use typed_tree::CheckFault;
 /// A part of a program, the line of the program's first fault, and its kind.
 pub type Row = (&'static str, u32, TypeKind);
 
-/// The typed program of a text, or the line and the kind of its first fault. Out of memory is a failure of the test.
+/// The typed program of a text, by the names of the functions that `simit` has, or the line and the kind of its first
+/// fault. Out of memory is a failure of the test.
 pub fn checked(
     rt: &(impl Abort + AllocGlobal),
     text: &[u8],
@@ -24,7 +26,8 @@ pub fn checked(
         Ok(lowered) => lowered,
         Err(_) => return Err(Fail::new("an index expression")),
     };
-    match check(rt.alloc(), lowered) {
+    let hosts = main_hosts(rt.alloc())?.names(rt.alloc())?;
+    match check(rt.alloc(), lowered, &hosts) {
         Ok(typed) => Ok(Ok(typed)),
         Err(CheckFault::IllTyped { line, kind }) => Ok(Err((line, kind))),
         Err(CheckFault::Memory) => Err(Fail::new("no memory")),

@@ -8,6 +8,8 @@ mod checked_texts;
 #[cfg(test)]
 mod heads;
 #[cfg(test)]
+mod hosts;
+#[cfg(test)]
 mod refused_declarations;
 #[cfg(test)]
 mod refused_in_functions;

@@ -173,37 +173,12 @@ static SETS: [Row; 37] = [
     ("\nextern\na : set{Q};", 11, Unknown),
 ];
 
-/// Host functions from line 10 on: none has the name of one that the host has.
-static HOSTS: [Row; 8] = [
-    ("extern func h(int(0)) -> int(0);", 10, Unknown),
-    ("\nextern func h(int(0), int(0)) -> int(0);", 11, Unknown),
-    ("extern func ps(int(0)) -> int(0);", 10, Unknown),
-    ("extern func h(int(0.5)) -> int(0);", 10, Unknown),
-    ("extern func h(int(37)) -> int(0);", 10, Unknown),
-    (
-        "extern func h(int(0), int(0), int(0)) -> int(0);",
-        10,
-        Unknown,
-    ),
-    (
-        "extern a : set{S};\nextern func h(int(0)) -> int(0);",
-        10,
-        Shape,
-    ),
-    (
-        "extern func h(int(0)) -> int(0);\nextern a : set{S};",
-        10,
-        Unknown,
-    ),
-];
-
 #[test]
 fn refused_elements_and_sets(rt: HostRuntime) -> Result<(), Fail> {
     let after = "\nend\nextern ps : set{P};\nproc main end";
     assert_refused(&rt, ["element P\n", ""], &FIELDS, after)?;
     assert_refused(&rt, ["", ""], &ELEMENTS, MAIN)?;
-    assert_refused(&rt, [DECLARED, ""], &SETS, MAIN)?;
-    assert_refused(&rt, [DECLARED, ""], &HOSTS, MAIN)
+    assert_refused(&rt, [DECLARED, ""], &SETS, MAIN)
 }
 
 /// Parameters of a function whose line is 10.

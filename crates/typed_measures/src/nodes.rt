@@ -25,6 +25,7 @@ fn named(referent: Referent) -> Named
         Referent::Field { set, field } => Named::Field { set, field },
         Referent::Own { field } => Named::Own { field },
         Referent::End { field } => Named::End { field },
+        Referent::Host(number) => Named::Host(number),
     }
 }
 

@@ -6,6 +6,7 @@ ghost use Rattle.block_types.specs.Readings.{set_fields};
 use BlockShape::{Matrix, Number, Vector};
 use NodeType::{Local, SystemMatrix, SystemVector};
 use block_types::{FieldShape, Typed, check};
+use main_hosts::main_hosts;
 use sim_lexer::lex;
 use sim_parser::parse;
 use sim_syntax::Lowered;
@@ -15,9 +16,9 @@ use std::test::Fail;
 use type_rules::{BlockShape, NodeType};
 use typed_measures::program_nodes;
 use typed_tree::Named;
-use worked_texts::{DOUBLED, GRADIENTS, PULLING, RATIO, STIFFNESS, SUMMED};
+use worked_texts::{DOUBLED, GRADIENTS, POINTS_AND_SPRINGS, PULLING, RATIO, STIFFNESS, SUMMED};
 
-/// The typed program of a text that has one.
+/// The typed program of a text that has one, by the names of the functions that `simit` has.
 fn typed(rt: &(impl Abort + AllocGlobal), text: &str) -> Result<Typed, Fail> {
     assert!(rt; text.len() <= 1 << 20);
     let tokens = lex(rt.alloc(), text.as_bytes())?;
@@ -25,7 +26,8 @@ fn typed(rt: &(impl Abort + AllocGlobal), text: &str) -> Result<Typed, Fail> {
     let Ok(lowered) = Lowered::of(program) else {
         return Err(Fail::new("an index expression"));
     };
-    match check(rt.alloc(), lowered) {
+    let hosts = main_hosts(rt.alloc())?.names(rt.alloc())?;
+    match check(rt.alloc(), lowered, &hosts) {
         Ok(typed) => Ok(typed),
         Err(_) => Err(Fail::new("a program that is refused")),
     }
@@ -279,6 +281,37 @@ fn nodes_of_places_that_are_written_twice(rt: HostRuntime) -> Result<(), Fail> {
 #[test]
 fn nodes_of_sums_over_springs(rt: HostRuntime) -> Result<(), Fail> {
     assert_nodes_of(&rt, SUMMED, &OF_SUMMED)
+}
+
+/// A call of a host function, whose number is 2, and a sum.
+const CALLED: &str = "extern func most(int(0), int(2)) -> int(1);
+proc main
+  var a = most(1, 2.00) + 0.5;
+end
+";
+
+const WITH_ONE_DECIMAL: NodeType = Local {
+    block: Number,
+    scale: 1,
+};
+
+const WITH_TWO_DECIMALS: NodeType = Local {
+    block: Number,
+    scale: 2,
+};
+
+static OF_CALLED: [NodeRow; 5] = [
+    LITERAL,
+    (WITH_TWO_DECIMALS, None),
+    (WITH_ONE_DECIMAL, Some(Named::Host(2))),
+    (WITH_ONE_DECIMAL, None),
+    (WITH_ONE_DECIMAL, None),
+];
+
+#[test]
+fn nodes_of_a_call(rt: HostRuntime) -> Result<(), Fail> {
+    let text = [POINTS_AND_SPRINGS, CALLED].concat(rt.alloc())?;
+    assert_nodes_of(&rt, text.as_str(), &OF_CALLED)
 }
 
 /// A quotient for each spring, and another.

@@ -1,10 +1,11 @@
 -- The declarations of a program.
-use Rattle.std.specs.Prelude.{ℕ, suc, ◌+◌, ◌*◌, ◌==◌, Bool, true, false, not, ◌&&◌, ◌||◌, nat_lt, List, [], ◌∷◌, ◌++◌, length, map, filter, codes, decimal, slice_get, Option, Some, None, Result, Ok, Err, if◌then◌else◌}
+use Rattle.std.specs.Prelude.{ℕ, suc, ◌+◌, ◌*◌, ◌==◌, Bool, true, false, not, ◌&&◌, ◌||◌, nat_lt, List, [], ◌∷◌, ◌++◌, length, map, filter, codes, decimal, position, slice_get, Option, Some, None, Result, Ok, Err, if◌then◌else◌}
 use Rattle.std.specs.List.{list_all, list_any, range_with_len, sum_by}
-use Rattle.std.specs.Option.{is_none, option_map}
+use Rattle.std.specs.Option.{is_none, option_and_then, option_map}
 use Rattle.std.specs.Str.{bytes_eq}
 use Rattle.vocabulary.specs.Answers.{◌>>=◌, fold_result}
 use Rattle.vocabulary.specs.declared.limits.TheConstants.{MOST_ARGUMENTS, MOST_COLUMNS, MOST_ENDPOINTS, MOST_FIELD_SCALE, MOST_FIELDS, MOST_FUNCTION_COST, MOST_RESULTS, MOST_SCALE, MOST_SETS}
+use Rattle.host_table.specs.declared.table.HostName.{HostName}
 use Rattle.sim_syntax.specs.declared.declaration.Decl.{Decl}
 use Rattle.sim_syntax.specs.declared.declaration.Decl.TheVariants as decl
 use Rattle.sim_syntax.specs.declared.declaration.Field.{Field}
@@ -16,7 +17,7 @@ use Rattle.sim_syntax.specs.declared.declaration.ParamKind.TheVariants as param
 use Rattle.sim_syntax.specs.declared.declaration.ResultDecl.{ResultDecl}
 use Rattle.sim_syntax.specs.declared.statement.Stmt.{Stmt}
 use Rattle.type_rules.specs.Types.{scale_of}
-use Rattle.type_rules.specs.Rules.{first_kind, declared_rule, rank, is_missing, or_zero}
+use Rattle.type_rules.specs.Rules.{first_kind, declared_rule, rank, is_missing, is_scale_past, or_zero}
 use Rattle.type_rules.specs.declared.types.BlockShape.{BlockShape}
 use Rattle.type_rules.specs.declared.types.BlockShape.TheVariants.{Number}
 use Rattle.type_rules.specs.declared.types.NodeType.{NodeType}
@@ -40,6 +41,8 @@ use Rattle.typed_tree.specs.declared.function.WrittenPlace.TheVariants as place
 use Rattle.typed_tree.specs.declared.environment.Declarations.{Declarations}
 use Rattle.typed_tree.specs.declared.environment.Environment.{Environment}
 use Rattle.typed_tree.specs.declared.environment.Walk.{Walk}
+use Rattle.typed_tree.specs.declared.names.HostArguments.{HostArguments}
+use Rattle.typed_tree.specs.declared.names.HostArguments.TheVariants as arguments
 use Rattle.typed_tree.specs.declared.names.Meaning.{Meaning}
 use Rattle.typed_tree.specs.declared.names.Meaning.TheVariants as meaning
 use Rattle.typed_tree.specs.declared.program.ElementType.{ElementType}
@@ -356,11 +359,50 @@ func_decl line name params results body walk = do
   _ ← at_line line (faultless (function_fault (is_visible walk name) ps.0 (length rs.0) (body_cost b.0)))
   Ok (with_function (ended walk b.1) (function_of name (signed (signature_of ps.0)) rs.0 b.0))
 
+-- ---- host functions
+
+-- a host function by its name: its number in the table, and its entry
+abbrev pub host_by_name : List HostName → Name → Option (ℕ × HostName)
+host_by_name hosts name =
+    option_and_then (λ number. option_map (λ host. (number, host)) (slice_get hosts number)) (position (λ host. bytes_eq host.name name) hosts)
+
+abbrev pub number_in : Option (ℕ × HostName) → ℕ
+number_in None = 0
+number_in (Some host) = host.0
+
+abbrev pub arity_in : Option (ℕ × HostName) → ℕ
+arity_in None = 0
+arity_in (Some host) = host.1.arity
+
+-- a host function takes one argument or two
+abbrev pub host_arguments : List (Option ℕ) → Option HostArguments
+host_arguments (scale ∷ []) = Some (arguments.One (or_zero scale))
+host_arguments (first ∷ second ∷ []) = Some (arguments.Two (or_zero first) (or_zero second))
+host_arguments scales = None
+
+-- the arguments where they are one or two
+abbrev pub stated : Option HostArguments → HostArguments
+stated None = arguments.One 0
+stated (Some given) = given
+
+-- why a host function may not be declared so, with the scales of its arguments and of its result
+unfoldable pub host_fault : Option (ℕ × HostName) → Bool → List (Option ℕ) → Option ℕ → Option TypeKind
+host_fault host taken scales result =
+    first_kind ((kind.Unknown, is_none host) ∷ (kind.Twice, taken) ∷ (kind.NotConstant, is_missing result || list_any is_missing scales)
+    ∷ (kind.Shape, not (length scales == arity_in host) || is_none (host_arguments scales))
+    ∷ (kind.Scale, is_scale_past MOST_SCALE result || list_any (is_scale_past MOST_SCALE) scales) ∷ [])
+
+unfoldable pub host_decl : List HostName → ℕ → Name → List (List ℕ) → List ℕ → Walk → Result Walk CheckFault
+host_decl hosts line name args result walk = do
+  let host = host_by_name hosts name
+  let scales = map whole args
+  _ ← at_line line (faultless (host_fault host (is_visible walk name) scales (whole result)))
+  Ok (naming walk name (meaning.Host (record { number = number_in host; arguments = stated (host_arguments scales); scale = or_zero (whole result) })))
+
 -- ---- all declarations
 
--- a function of the host isn't known
-unfoldable pub declaration : Walk → Decl → Result Walk CheckFault
-declaration walk (decl.Element line name fields) = element_decl line name fields walk
-declaration walk (decl.Set line name element ends) = set_decl line name element ends walk
-declaration walk (decl.Host line name args result) = Err (IllTyped line kind.Unknown)
-declaration walk (decl.Func line name params results body) = func_decl line name params results body walk
+unfoldable pub declaration : List HostName → Walk → Decl → Result Walk CheckFault
+declaration hosts walk (decl.Element line name fields) = element_decl line name fields walk
+declaration hosts walk (decl.Set line name element ends) = set_decl line name element ends walk
+declaration hosts walk (decl.Host line name args result) = host_decl hosts line name args result walk
+declaration hosts walk (decl.Func line name params results body) = func_decl line name params results body walk

@@ -9,7 +9,7 @@ use Rattle.sim_syntax.specs.declared.condition.Cond.{Cond}
 use Rattle.sim_syntax.specs.declared.condition.Conjunction.{Conjunction}
 use Rattle.sim_syntax.specs.declared.condition.Cmp.{Cmp}
 use Rattle.type_rules.specs.Types.{scale_of}
-use Rattle.type_rules.specs.Rules.{literal_rule, part_rule, is_unknown, is_empty, same_rule, product_rule, entrywise_rule, dot_rule, rescale_rule, quot_rule, isqrt_rule, transposed_rule, block_rule, rank_rule, comparison_rule}
+use Rattle.type_rules.specs.Rules.{call_rule, literal_rule, part_rule, is_unknown, is_empty, same_rule, product_rule, entrywise_rule, dot_rule, rescale_rule, quot_rule, isqrt_rule, transposed_rule, block_rule, rank_rule, comparison_rule}
 use Rattle.type_rules.specs.declared.types.BlockShape.TheVariants as block
 use Rattle.type_rules.specs.declared.types.NodeType.{NodeType}
 use Rattle.type_rules.specs.declared.types.NodeType.TheVariants as type
@@ -35,6 +35,9 @@ use Rattle.typed_tree.specs.declared.condition.TypedCmp.{TypedCmp}
 use Rattle.typed_tree.specs.declared.environment.Environment.{Environment}
 use Rattle.typed_tree.specs.declared.environment.Level.{Level}
 use Rattle.typed_tree.specs.declared.environment.Level.TheVariants.{Function, Main}
+use Rattle.typed_tree.specs.declared.names.HostArguments.{HostArguments}
+use Rattle.typed_tree.specs.declared.names.HostArguments.TheVariants as arguments
+use Rattle.typed_tree.specs.declared.names.HostSignature.{HostSignature}
 use Rattle.typed_tree.specs.declared.names.Meaning.{Meaning}
 use Rattle.typed_tree.specs.declared.names.Meaning.TheVariants as meaning
 use Rattle.typed_tree.specs.Lookups.{fields_of, element_in, find_field, over_set}
@@ -147,8 +150,27 @@ abbrev pub ranked : Option ℕ → Referent × NodeType → Found
 ranked None what = Ok what
 ranked (Some rank) what = found what.0 (rank_rule what.1 rank)
 
+-- the host function for which a name stands
+abbrev pub host_in : Option Meaning → Option HostSignature
+host_in (Some (meaning.Host host)) = Some host
+host_in other = None
+
+abbrev pub host_named : Environment → Name → Option Name → List TypedExpr → Option HostSignature
+host_named env name None [] = host_in (meaning_of env.names name)
+host_named env name field field_args = None
+
+-- the scales of the arguments of a host function
+abbrev pub scales_of : HostArguments → List ℕ
+scales_of (arguments.One scale) = scale ∷ []
+scales_of (arguments.Two first second) = first ∷ second ∷ []
+
+-- a host function is called; any other name has a value
+unfoldable pub called_or_named : Environment → Option HostSignature → Name → List TypedExpr → Option Name → List TypedExpr → Found
+called_or_named env (Some host) name args field field_args = found (referent.Host host.number) (call_rule (scales_of host.arguments) host.scale (map type_of args))
+called_or_named env None name args field field_args = name_rule env name (map range_of args) field (map range_of field_args)
+
 abbrev pub reference_rule : Environment → Name → List TypedExpr → Option Name → List TypedExpr → Option ℕ → Found
-reference_rule env name args field field_args rank = name_rule env name (map range_of args) field (map range_of field_args) >>= ranked rank
+reference_rule env name args field field_args rank = called_or_named env (host_named env name field field_args) name args field field_args >>= ranked rank
 
 unfoldable pub reference : Environment → ℕ → Name → List (Step ℕ TypedExpr) → Option Name → List (Step ℕ TypedExpr) → Option ℕ → Step ℕ TypedExpr
 reference env line name args field field_args rank next = do

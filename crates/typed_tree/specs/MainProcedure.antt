@@ -12,7 +12,7 @@ use Rattle.sim_syntax.specs.declared.statement.Right.{Right}
 use Rattle.sim_syntax.specs.declared.statement.Right.TheVariants as right
 use Rattle.sim_syntax.specs.declared.statement.Target.{Target}
 use Rattle.type_rules.specs.Types.{is_scalar, scale_of}
-use Rattle.type_rules.specs.Rules.{first_kind, same_rule, kind_of, earlier}
+use Rattle.type_rules.specs.Rules.{first_kind, same_rule, kind_of, earlier, are_numbers, have_scales}
 use Rattle.type_rules.specs.declared.types.NodeType.{NodeType}
 use Rattle.type_rules.specs.declared.types.NodeType.TheVariants.{Local, SystemVector, SystemMatrix}
 use Rattle.type_rules.specs.declared.types.TypeKind.{TypeKind}
@@ -74,13 +74,9 @@ abbrev pub may_be_mapped : Declarations → TypedFunction → ℕ → SetShape �
 may_be_mapped declarations function number set =
     (function.element == set.element) && takes_endpoints declarations set function.endpoints && list_all (is_result_of number set.over) function.results
 
--- the arguments are scalars, as many as the function takes
+-- the arguments are numbers, as many as the function takes
 abbrev pub are_arguments : TypedFunction → List NodeType → Bool
-are_arguments function args = (length args == length function.arguments) && list_all is_scalar args
-
--- the arguments have the scales of the parameters
-abbrev pub have_scales : List ℕ → List NodeType → Bool
-have_scales scales args = list_all (λ pair. pair.0 == scale_of pair.1) (zip scales args)
+are_arguments function args = are_numbers function.arguments args
 
 unfoldable pub map_rule : Declarations → TypedFunction → ℕ → SetShape → List NodeType → Option TypeKind
 map_rule declarations function number set args =

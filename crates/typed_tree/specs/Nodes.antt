@@ -36,6 +36,7 @@ named (referent.Turn local range) = stands.Local
 named (referent.Field set field) = stands.Field set field
 named (referent.Own field) = stands.Own field
 named (referent.End field) = stands.End field
+named (referent.Host number) = stands.Host number
 
 abbrev pub Nodes : Type 0
 Nodes = List NodeEntry

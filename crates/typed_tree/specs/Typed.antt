@@ -1,6 +1,7 @@
 -- The typed program of a program's tree, or the first fault of it in post-order.
 use Rattle.std.specs.Prelude.{ℕ, List, [], Result, Ok, Err}
 use Rattle.vocabulary.specs.Answers.{◌>>=◌, fold_result}
+use Rattle.host_table.specs.declared.table.HostName.{HostName}
 use Rattle.sim_syntax.specs.declared.declaration.Decl.{Decl}
 use Rattle.sim_syntax.specs.declared.program.Program.{Program}
 use Rattle.typed_tree.specs.declared.fault.CheckFault.{CheckFault}
@@ -20,8 +21,9 @@ beginning = record {
   locals = 0;
 }
 
-abbrev pub declared : List Decl → Result Walk CheckFault
-declared decls = fold_result declaration beginning decls
+-- the walk over declarations, by what the host offers
+abbrev pub declared : List HostName → List Decl → Result Walk CheckFault
+declared hosts decls = fold_result (declaration hosts) beginning decls
 
 -- the walk comes to the main procedure
 abbrev pub at_main : Walk → Walk
@@ -42,8 +44,8 @@ program_of tree done = record {
   body = done.0;
 }
 
-unfoldable pub typed : Program → Result TypedProgram CheckFault
-typed tree = do
-  walk ← declared tree.decls
+unfoldable pub typed : List HostName → Program → Result TypedProgram CheckFault
+typed hosts tree = do
+  walk ← declared hosts tree.decls
   done ← main_statements tree.body (at_main walk)
   Ok (program_of tree done)

@@ -27,6 +27,8 @@ pub enum Referent {
     Own { field: u32 },
     /// A field of an endpoint.
     End { field: u32 },
+    /// A host function that is called, by its number in the host table.
+    Host(u32),
 }
 
 /// An expression with its node.
@@ -44,8 +46,9 @@ pub enum TypedForm {
     Number {
         word: u64,
     },
-    /// What a name stands for, or an entry of it. Of an endpoint's field, `args` holds the endpoint's index and
-    /// `field_args` the entry's; of an own field, `field_args` the entry's; of a local, `args`.
+    /// What a name stands for, or an entry of it, or a call. Of an endpoint's field, `args` holds the endpoint's index
+    /// and `field_args` the entry's; of an own field, `field_args` the entry's; of a local, `args`. Of a host function,
+    /// `args` holds the arguments.
     Ref {
         referent: Referent,
         args: Items<TypedExpr>,

@@ -26,6 +26,6 @@ pub use function::{
 pub use literals::{decimals_of, literal_word, whole};
 pub use lookups::{field_type, find_field, over_set};
 pub use main_procedure::{MainStmt, RightSide, TypedRight, TypedTarget};
-pub use names::{Meaning, Names};
+pub use names::{HostArguments, HostSignature, Meaning, Names};
 pub use nodes::{Named, NodeEntry};
 pub use program::{ElementType, SetShape, TypedField, TypedProgram, TypedSet, Variable};

@@ -9,13 +9,30 @@ use std::marker::Model;
 use type_rules::{IndexRange, NodeType};
 use vocabulary::NoMemory;
 
+/// The scales of the arguments of a host function.
+#[derive(Clone, Copy, Debug, PartialEq, Eq)]
+pub enum HostArguments {
+    One(u32),
+    Two(u32, u32),
+}
+
+/// A host function as it is declared: its number in the host table, the scales of its arguments, and that of what it
+/// answers.
+#[derive(Clone, Copy, Debug, PartialEq, Eq)]
+pub struct HostSignature {
+    pub number: u32,
+    pub arguments: HostArguments,
+    pub scale: u32,
+}
+
 /// What a name stands for.
 #[derive(Clone, Copy, Debug, PartialEq, Eq)]
 pub enum Meaning {
-    /// An element type, a set or a function, by its number.
+    /// An element type, a set or a function, by its number, and a host function.
     Element(u32),
     Set(u32),
     Function(u32),
+    Host(HostSignature),
     /// A scalar parameter of a function: a local, and its scale.
     Parameter { local: u32, scale: u32 },
     /// The element that a function takes, by its type.

@@ -15,6 +15,8 @@ pub enum Named {
     Own { field: u32 },
     /// A field of an endpoint.
     End { field: u32 },
+    /// A host function, by its number in the host table.
+    Host(u32),
 }
 
 /// What is known of a node: its type and, of a reference, what it stands for.

@@ -50,7 +50,7 @@ faultless_split (Some k) x is = absurd (cc)
 
 -- ---- blocks
 
-past_split : (most : ℕ) (scale : Option ℕ) → is_missing scale ≡ false → is_scale_past most scale ≡ false → (s : ℕ) × (scale ≡ Some s) × (s ≤ most)
+pub past_split : (most : ℕ) (scale : Option ℕ) → is_missing scale ≡ false → is_scale_past most scale ≡ false → (s : ℕ) × (scale ≡ Some s) × (s ≤ most)
 past_split most None there few = absurd (cc)
 past_split most (Some s) there few = (s, refl, ltb-false most s few)
 

@@ -8,6 +8,7 @@ use Rattle.std.specs.Str.{bytes_eq}
 use native.Mathlib.Omega.{arith}
 use Rattle.vocabulary.specs.Answers.{◌>>=◌, fold_result}
 use Rattle.vocabulary.specs.declared.limits.TheConstants.{MOST_ENDPOINTS, MOST_FIELD_SCALE, MOST_FIELDS}
+use Rattle.host_table.specs.declared.table.HostName.{HostName}
 use Rattle.sim_syntax.specs.declared.declaration.Decl.TheVariants as decl
 use Rattle.sim_syntax.specs.declared.declaration.Field.{Field}
 use Rattle.type_rules.specs.Types.{scale_of}
@@ -34,10 +35,10 @@ use Rattle.typing_laws.proofs.DeclarationBlocks.{unless_split, unless_more, faul
 differs : (b : Bool) → b ≡ true → b ≡ false → ⊥
 differs b is other = cc
 
-same_bytes : (xs ys : List ℕ) → bytes_eq xs ys ≡ false → xs ≡ ys → ⊥
+pub same_bytes : (xs ys : List ℕ) → bytes_eq xs ys ≡ false → xs ≡ ys → ⊥
 same_bytes xs ys other same = differs (bytes_eq xs ys) ((bytes_eq-Decides xs ys).1 same) other
 
-other_bytes : (xs ys : List ℕ) → (xs ≡ ys → ⊥) → bytes_eq xs ys ≡ false
+pub other_bytes : (xs ys : List ℕ) → (xs ≡ ys → ⊥) → bytes_eq xs ys ≡ false
 other_bytes xs ys other = false_from_ne_true (bytes_eq xs ys) (λ same. other ((bytes_eq-Decides xs ys).0 same))
 
 pub taken_split : (b : Bool) → taken b ≡ None → b ≡ false
@@ -173,10 +174,10 @@ only_fields before fields others (AreFields.one_more b field fs block scale os n
 
 -- ---- element types
 
-pub element_typed : (line : ℕ) (name : Name) (fields : List Field) (walk after : Walk) → element_decl line name fields walk ≡ Ok after
-    → IsDeclaration (decl.Element line name fields) walk after
+pub element_typed : (hosts : List HostName) (line : ℕ) (name : Name) (fields : List Field) (walk after : Walk) → element_decl line name fields walk ≡ Ok after
+    → IsDeclaration hosts (decl.Element line name fields) walk after
 unfolding element_decl element_fault with_element
-element_typed line name fields walk after is =
+element_typed hosts line name fields walk after is =
     let visible = is_visible walk name in
     let a = and_then (fold_result with_field ([], []) fields)
     (λ fs. at_line line (faultless (element_fault visible (length fs.0))) >>= λ u. Ok (with_element walk name fs.0)) after is in
@@ -184,7 +185,7 @@ element_typed line name fields walk after is =
     let f = fields_typed fields [] a.0 a.1 in
     let t = none_first kind.Twice visible ((kind.TooLarge, nat_lt MOST_FIELDS (length a.0.0)) ∷ []) (faultless_split (element_fault visible (length a.0.0)) l.0 l.1) in
     let few = none_first kind.TooLarge (nat_lt MOST_FIELDS (length a.0.0)) [] t.1 in
-    subst (λ w. IsDeclaration (decl.Element line name fields) walk w) (ap (with_element walk name) (sym f.2) ∙ same_Ok (with_element walk name a.0.0) after l.2)
+    subst (λ w. IsDeclaration hosts (decl.Element line name fields) walk w) (ap (with_element walk name) (sym f.2) ∙ same_Ok (with_element walk name a.0.0) after l.2)
     (IsDeclaration.element_type line name fields f.0 walk f.1 (subst (λ fs. length fs ≤ MOST_FIELDS) f.2 (ltb-false MOST_FIELDS (length a.0.0) few.0))
     (not_known (meaning_of walk.environment.names name) t.0))
 

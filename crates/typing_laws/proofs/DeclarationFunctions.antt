@@ -5,6 +5,7 @@ use Rattle.std.proofs.lemmas.Bool.{ltb-false, le-ltb, or_from}
 use Rattle.std.specs.Option.{is_none, option_map}
 use Rattle.vocabulary.specs.Answers.{◌>>=◌, fold_result}
 use Rattle.vocabulary.specs.declared.limits.TheConstants.{MOST_ARGUMENTS, MOST_FUNCTION_COST, MOST_RESULTS}
+use Rattle.host_table.specs.declared.table.HostName.{HostName}
 use Rattle.sim_syntax.specs.declared.declaration.Decl.TheVariants as decl
 use Rattle.sim_syntax.specs.declared.declaration.Param.{Param}
 use Rattle.sim_syntax.specs.declared.declaration.ResultDecl.{ResultDecl}
@@ -169,20 +170,20 @@ results_are body number rs types walk after (AreResults.one_more n r rs' t types
 abbrev pub made_function : Walk → Name → Signature → List NodeType → List FunctionStmt → Walk
 made_function walk name signature results body = with_function walk (function_of name signature results body)
 
-function_judged : (line : ℕ) (name : Name) (params : List Param) (results : List ResultDecl) (body : List Stmt) (types : List ParameterType) (signature : Signature)
+function_judged : (hosts : List HostName) (line : ℕ) (name : Name) (params : List Param) (results : List ResultDecl) (body : List Stmt) (types : List ParameterType) (signature : Signature)
     (result_types : List NodeType) (done : List FunctionStmt) (walk named begun after : Walk)
     → InTurn IsParameter params types walk named → AreResults 0 results result_types named begun → IsBodyTyping body done begun after
     → IsSignature types signature → length signature.arguments ≤ MOST_ARGUMENTS → length result_types ≤ MOST_RESULTS → body_cost done ≤ MOST_FUNCTION_COST
-    → IsNew walk name → IsDeclaration (decl.Func line name params results body) walk (made_function (leaving walk after) name signature result_types done)
+    → IsNew walk name → IsDeclaration hosts (decl.Func line name params results body) walk (made_function (leaving walk after) name signature result_types done)
 unfolding with_function function_of
-function_judged line name params results body types signature result_types done walk named begun after ps rs s is_signature arguments few cheap new =
+function_judged hosts line name params results body types signature result_types done walk named begun after ps rs s is_signature arguments few cheap new =
     IsDeclaration.new_function line name params results body types signature result_types done (typed_results done 0 result_types) walk named begun after ps rs s
     (results_are done 0 results result_types named begun rs) is_signature arguments few cheap new
 
-pub function_typed : (line : ℕ) (name : Name) (params : List Param) (results : List ResultDecl) (body : List Stmt) (walk after : Walk)
-    → func_decl line name params results body walk ≡ Ok after → IsDeclaration (decl.Func line name params results body) walk after
+pub function_typed : (hosts : List HostName) (line : ℕ) (name : Name) (params : List Param) (results : List ResultDecl) (body : List Stmt) (walk after : Walk)
+    → func_decl line name params results body walk ≡ Ok after → IsDeclaration hosts (decl.Func line name params results body) walk after
 unfolding func_decl
-function_typed line name params results body walk after is =
+function_typed hosts line name params results body walk after is =
     let visible = is_visible walk name in
     let end : List ParameterType → List NodeType → List FunctionStmt × Walk → Result Walk CheckFault = λ types result_types b.
     at_line line (faultless (function_fault visible types (length result_types) (body_cost b.0)))
@@ -199,12 +200,12 @@ function_typed line name params results body walk after is =
     let rs = results_typed results [] a.0.1 b.0 b.1 in
     let s = body_typed body b.0.1 c.0 c.1 in
     let left = ended_is walk c.0.1 (function_extends params types results rs.0 body done walk a.0.1 b.0.1 c.0.1 ps rs.1 s) in
-    subst (λ w. IsDeclaration (decl.Func line name params results body) walk w)
+    subst (λ w. IsDeclaration hosts (decl.Func line name params results body) walk w)
     (ap (λ w. made_function w name f.signature rs.0 done) (sym left)
     ∙ ap (λ o. made_function (ended walk c.0.1) name (signed o) rs.0 done) (sym (signature_is types f.signature f.is_signature))
     ∙ ap (λ ts. made_function (ended walk c.0.1) name (signed (signature_of types)) ts done) (sym rs.2)
     ∙ same_Ok (made_function (ended walk c.0.1) name (signed (signature_of types)) b.0.0 done) after l.2)
-    (function_judged line name params results body types f.signature rs.0 done walk a.0.1 b.0.1 c.0.1 ps rs.1 s f.is_signature f.arguments
+    (function_judged hosts line name params results body types f.signature rs.0 done walk a.0.1 b.0.1 c.0.1 ps rs.1 s f.is_signature f.arguments
     (subst (λ ts. length ts ≤ MOST_RESULTS) rs.2 f.few) f.cheap (not_known (meaning_of walk.environment.names name) f.new))
 
 pub only_function : (line : ℕ) (name : Name) (params : List Param) (results : List ResultDecl) (body : List Stmt) (types : List ParameterType) (signature : Signature)

@@ -6,6 +6,7 @@ use Rattle.std.specs.List.{list_any, list_all}
 use Rattle.std.specs.Option.{is_none}
 use native.Mathlib.Omega.{arith}
 use Rattle.vocabulary.specs.declared.limits.TheConstants.{MOST_COLUMNS, MOST_ENDPOINTS, MOST_SETS}
+use Rattle.host_table.specs.declared.table.HostName.{HostName}
 use Rattle.sim_syntax.specs.declared.declaration.Decl.TheVariants as decl
 use Rattle.type_rules.specs.Rules.{or_zero}
 use Rattle.type_rules.specs.declared.types.TypeKind.{TypeKind}
@@ -177,10 +178,10 @@ made_is : (walk : Walk) (name : Name) (element : ℕ) (ends : List End) → with
 unfolding with_set
 made_is walk name element ends = refl
 
-pub set_typed : (line : ℕ) (name element_name : Name) (ends : List Name) (walk after : Walk) → set_decl line name element_name ends walk ≡ Ok after
-    → IsDeclaration (decl.Set line name element_name ends) walk after
+pub set_typed : (hosts : List HostName) (line : ℕ) (name element_name : Name) (ends : List Name) (walk after : Walk) → set_decl line name element_name ends walk ≡ Ok after
+    → IsDeclaration hosts (decl.Set line name element_name ends) walk after
 unfolding set_decl
-set_typed line name element_name ends walk after is =
+set_typed hosts line name element_name ends walk after is =
     let env = walk.environment in
     let found = map (set_named env) ends in
     let of = element_named env element_name in
@@ -192,7 +193,7 @@ set_typed line name element_name ends walk after is =
     let of_is : of ≡ Some e.0 = ap element_meant e.1 in
     let many : length found ≡ length ends = length-map ends (set_named env) in
     let made = made_set walk name in
-    subst (λ w. IsDeclaration (decl.Set line name element_name ends) walk w)
+    subst (λ w. IsDeclaration hosts (decl.Set line name element_name ends) walk w)
     (ap (made e.0 (over_of found)) (sym many) ∙ ap (λ o. made (or_zero o) (over_of found) (length found)) (sym of_is)
     ∙ sym (made_is walk name (or_zero of) found) ∙ same_Ok (with_set walk name (or_zero of) found) after l.2)
     (IsDeclaration.new_set line name element_name ends e.0 (over_of found) walk e.1 (lie_split env ends none.all_known none.together)

@@ -1,9 +1,11 @@
+pub mod CallFacts
 pub mod Chains
 pub mod ConditionFacts
 pub mod DeclarationBlocks
 pub mod DeclarationFacts
 pub mod DeclarationFields
 pub mod DeclarationFunctions
+pub mod DeclarationHosts
 pub mod DeclarationParts
 pub mod DeclarationSets
 pub mod FunctionFacts

@@ -6,6 +6,7 @@ use Rattle.std.specs.Option.{is_none, option_map}
 use Rattle.std.proofs.lemmas.Bool.{eqb-true, eq-eqb, not-false, not_from_true}
 use Rattle.std.proofs.lemmas.List.{length-map}
 use Rattle.type_rules.specs.Types.{is_scalar, scale_of}
+use Rattle.type_rules.specs.Rules.{have_scales}
 use Rattle.type_rules.specs.declared.types.BlockShape.TheVariants.{Number}
 use Rattle.type_rules.specs.declared.types.NodeType.{NodeType}
 use Rattle.type_rules.specs.declared.types.NodeType.TheVariants.{Local}
@@ -25,7 +26,7 @@ use Rattle.typed_tree.specs.declared.names.Meaning.TheVariants as meaning
 use Rattle.typed_tree.specs.Names.{Name, meaning_of}
 use Rattle.typed_tree.specs.Expressions.{type_of}
 use Rattle.typed_tree.specs.Lookups.{element_in, function_named, set_named}
-use Rattle.typed_tree.specs.MainProcedure.{takes_endpoints, is_over, is_side_of, is_column_of, is_result_of, may_be_mapped, are_arguments, have_scales, map_rule}
+use Rattle.typed_tree.specs.MainProcedure.{takes_endpoints, is_over, is_side_of, is_column_of, is_result_of, may_be_mapped, are_arguments, map_rule}
 use Rattle.typing_laws.specs.Lists.{Each}
 use Rattle.typing_laws.specs.References.{Means}
 use Rattle.typing_laws.specs.MainStatements.{TakesEndpoints, LiesIn, LiesInColumns, IsResultOver, MayBeMapped}
@@ -55,7 +56,7 @@ pub scalar_is : (t : NodeType) → is_scalar t ≡ true → t ≡ Local Number (
 scalar_is (Local Number scale) is = refl
 scalar_is other is = absurd (cc)
 
-args_are : (scales : List ℕ) (args : List NodeType) → length args ≡ length scales → list_all is_scalar args ≡ true → have_scales scales args ≡ true
+pub args_are : (scales : List ℕ) (args : List NodeType) → length args ≡ length scales → list_all is_scalar args ≡ true → have_scales scales args ≡ true
     → args ≡ map (Local Number) scales
 args_are [] [] count scalars have = refl
 args_are [] (a ∷ args) count scalars have = absurd (omega arith)
@@ -67,11 +68,11 @@ args_are (s ∷ scales) (a ∷ args) count scalars have =
     let others = args_are scales args (omega arith) one.1 fit.1 in
     λ i. first i ∷ others i
 
-are_scalars : (scales : List ℕ) → list_all is_scalar (map (Local Number) scales) ≡ true
+pub are_scalars : (scales : List ℕ) → list_all is_scalar (map (Local Number) scales) ≡ true
 are_scalars [] = refl
 are_scalars (s ∷ scales) = are_scalars scales
 
-are_scaled : (scales : List ℕ) → have_scales scales (map (Local Number) scales) ≡ true
+pub are_scaled : (scales : List ℕ) → have_scales scales (map (Local Number) scales) ≡ true
 are_scaled [] = refl
 are_scaled (s ∷ scales) = true_both (s == s) (have_scales scales (map (Local Number) scales)) (eq-eqb s s refl) (are_scaled scales)
 

@@ -10,6 +10,7 @@ use Rattle.type_rules.specs.Rules.{rescale_rule, transposed_rule, quot_rule, isq
 use Rattle.type_rules.specs.declared.types.NodeType.{NodeType}
 use Rattle.typed_tree.specs.declared.expression.Node.{Node}
 use Rattle.typed_tree.specs.declared.expression.Referent.{Referent}
+use Rattle.typed_tree.specs.declared.expression.Referent.TheVariants as referent
 use Rattle.typed_tree.specs.declared.expression.TypedExpr.{TypedExpr}
 use Rattle.typed_tree.specs.declared.expression.TypedForm.TheVariants as form
 use Rattle.typed_tree.specs.declared.expression.TypedRow.{TypedRow, roll-TypedRow}
@@ -23,14 +24,14 @@ use Rattle.typed_tree.specs.Names.{Name}
 use Rattle.typed_tree.specs.Steps.{Step, at_line, several}
 use Rattle.typed_tree.specs.Expressions.{SignedStep, numbered, reference, reference_rule, block_of_rows, block_at, row_types, sum, product, chained, with_term, with_factor, sum_node, product_node, expression}
 use Rattle.typing_laws.specs.Expressions.{IsTyping, AreTypings, AreRowTypings, AreTermTypings, AreFactorTypings, IsSumNode, IsProductNode}
-use Rattle.typing_laws.specs.Expressions.IsTyping.{number, reference as named, block, sum as summed, product as multiplied, transposed, rescale, quot, isqrt, dot}
+use Rattle.typing_laws.specs.Expressions.IsTyping.{number, reference as named, call, block, sum as summed, product as multiplied, transposed, rescale, quot, isqrt, dot}
 use Rattle.typing_laws.specs.Expressions.AreTypings.{none, one_more}
 use Rattle.typing_laws.specs.Expressions.AreRowTypings.{no_row, another_row}
 use Rattle.typing_laws.specs.Expressions.AreTermTypings.{no_term, another_term}
 use Rattle.typing_laws.specs.Expressions.AreFactorTypings.{no_factor, another_factor}
 use Rattle.typing_laws.proofs.Steps.{then_is, several_more}
 use Rattle.typing_laws.proofs.Nodes.{term_of, factor_of, row_of, term_is, factor_is, row_is, number_is, reference_is, block_is, sum_is, product_is, transposed_is, rescale_is, quot_is, isqrt_is, dot_is, unary_more, binary_more, number_more}
-use Rattle.typing_laws.proofs.ReferenceFacts.{only_reference}
+use Rattle.typing_laws.proofs.ReferenceFacts.{only_call, only_reference}
 use Rattle.typing_laws.proofs.Chains.{sum_node_is, product_node_is}
 
 -- what an expression answers, by the answer of its form
@@ -98,6 +99,10 @@ mutual
       (reference_more env line name (map (expression env) args) field (map (expression env) field_args) rank from' (as_typed, middle) (fs_typed, to') (what, type)
       (only_expressions env args as_typed from' middle first) (only_expressions env field_args fs_typed middle to' second)
       (only_reference env name as_typed field fs_typed rank what view type stands ranked))
+  only_expression env e t from to (call line name args rank as_typed host type from' to' first means arguments ranked) =
+      by_form from' _ (reference_is env line name args None [] rank)
+      (reference_more env line name (map (expression env) args) None [] rank from' (as_typed, to') ([], to') (referent.Host host.number, type)
+      (only_expressions env args as_typed from' to' first) refl (only_call env name as_typed rank host type means arguments ranked))
   only_expression env e t from to (block line rows rs type from' to' typed function rule) =
       by_form from' _ (block_is env line rows) (block_more env.level line (map (row_of env) rows) from' (rs, to') type (only_rows env rows rs from' to' typed) function rule)
   only_expression env e t from to (summed line terms ts last from' to' typed) =

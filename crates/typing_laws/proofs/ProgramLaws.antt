@@ -1,6 +1,7 @@
 -- Programs: what the definition answers is a typing, and each typing is what it answers.
-use Rattle.std.proofs.Common.{◌≡◌, Result, Ok, Err, refl, sym, subst, ◌∙◌}
+use Rattle.std.proofs.Common.{◌≡◌, List, Result, Ok, Err, refl, sym, subst, ◌∙◌}
 use Rattle.vocabulary.specs.Answers.{◌>>=◌}
+use Rattle.host_table.specs.declared.table.HostName.{HostName}
 use Rattle.sim_syntax.specs.declared.program.Program.{Program}
 use Rattle.typed_tree.specs.declared.fault.CheckFault.{CheckFault}
 use Rattle.typed_tree.specs.declared.program.TypedProgram.{TypedProgram}
@@ -13,18 +14,18 @@ use Rattle.typing_laws.proofs.Steps.{same_Ok, and_then, then_is}
 use Rattle.typing_laws.proofs.MainFacts.{main_typed, only_main}
 use Rattle.typing_laws.proofs.DeclarationFacts.{declarations_typed, only_declarations}
 
-program_typed : (tree : Program) (done : TypedProgram) → typed tree ≡ Ok done → IsProgramTyping tree done
+program_typed : (hosts : List HostName) (tree : Program) (done : TypedProgram) → typed hosts tree ≡ Ok done → IsProgramTyping hosts tree done
 unfolding typed program_of
-program_typed tree done is =
-    let a = and_then (declared tree.decls) (λ walk. main_statements tree.body (at_main walk) >>= λ main. Ok (program_of tree main)) done is in
+program_typed hosts tree done is =
+    let a = and_then (declared hosts tree.decls) (λ walk. main_statements tree.body (at_main walk) >>= λ main. Ok (program_of tree main)) done is in
     let b = and_then (main_statements tree.body (at_main a.0)) (λ main. Ok (program_of tree main)) done a.2 in
-    subst (IsProgramTyping tree) (same_Ok (program_of tree b.0) done b.2)
-    (IsProgramTyping.program tree a.0 b.0.1 b.0.0 (declarations_typed tree.decls at_first a.0 a.1) (main_typed tree.body (before_main a.0) b.0 b.1))
+    subst (IsProgramTyping hosts tree) (same_Ok (program_of tree b.0) done b.2)
+    (IsProgramTyping.program tree a.0 b.0.1 b.0.0 (declarations_typed hosts tree.decls at_first a.0 a.1) (main_typed tree.body (before_main a.0) b.0 b.1))
 
-only_program : (tree : Program) (done : TypedProgram) → IsProgramTyping tree done → typed tree ≡ Ok done
+only_program : (hosts : List HostName) (tree : Program) (done : TypedProgram) → IsProgramTyping hosts tree done → typed hosts tree ≡ Ok done
 unfolding typed program_of
-only_program tree done (IsProgramTyping.program t walk after body are main) =
-    then_is (declared t.decls) (λ w. main_statements t.body (at_main w) >>= λ m. Ok (program_of t m)) walk _ (only_declarations t.decls at_first walk are)
+only_program hosts tree done (IsProgramTyping.program t walk after body are main) =
+    then_is (declared hosts t.decls) (λ w. main_statements t.body (at_main w) >>= λ m. Ok (program_of t m)) walk _ (only_declarations hosts t.decls at_first walk are)
     (then_is (main_statements t.body (at_main walk)) (λ m. Ok (program_of t m)) (body, after) _ (only_main t.body body (before_main walk) after main) refl)
 
 -- ---- the laws
@@ -42,8 +43,8 @@ has_answer_laws known judged typed only = record {
 }
 
 pub declaration_laws : DeclarationLaws
-declaration_laws = has_answer_laws declared (λ ds walk. AreDeclarations ds at_first walk) (λ ds walk. declarations_typed ds at_first walk)
-    (λ ds walk. only_declarations ds at_first walk)
+declaration_laws hosts = has_answer_laws (declared hosts) (λ ds walk. AreDeclarations hosts ds at_first walk) (λ ds walk. declarations_typed hosts ds at_first walk)
+    (λ ds walk. only_declarations hosts ds at_first walk)
 
 pub program_laws : ProgramLaws
-program_laws = has_answer_laws typed IsProgramTyping program_typed only_program
+program_laws hosts = has_answer_laws (typed hosts) (IsProgramTyping hosts) (program_typed hosts) (only_program hosts)

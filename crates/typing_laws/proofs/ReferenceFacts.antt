@@ -1,8 +1,9 @@
--- What the definition finds of a reference is what it stands for, and the other way round.
-use Rattle.std.proofs.Common.{◌≡◌, ℕ, Bool, true, false, if◌then◌else◌, List, [], ◌∷◌, ◌++◌, map, Option, Some, None, Result, Ok, Err, refl, sym, ap, subst, ◌∙◌}
+-- What the definition finds of a reference is what it stands for or what it calls, and the other way round.
+use Rattle.std.proofs.Common.{◌≡◌, ◌⊎◌, inl, inr, ℕ, Bool, true, false, if◌then◌else◌, List, [], ◌∷◌, ◌++◌, map, Option, Some, None, Result, Ok, Err, refl, sym, ap, subst, ◌∙◌}
 use Rattle.std.specs.List.{list_any}
+use Rattle.std.specs.Option.{option_map}
 use Rattle.vocabulary.specs.Answers.{◌>>=◌}
-use Rattle.type_rules.specs.Rules.{part_rule, rank_rule, is_unknown}
+use Rattle.type_rules.specs.Rules.{call_rule, part_rule, rank_rule, is_unknown}
 use Rattle.type_rules.specs.declared.types.BlockShape.TheVariants.{Number}
 use Rattle.type_rules.specs.declared.types.IndexRange.{IndexRange}
 use Rattle.type_rules.specs.declared.types.NodeType.{NodeType}
@@ -15,13 +16,15 @@ use Rattle.typed_tree.specs.declared.environment.Level.TheVariants.{Function, Ma
 use Rattle.typed_tree.specs.declared.expression.TypedExpr.{TypedExpr}
 use Rattle.typed_tree.specs.declared.expression.Referent.{Referent}
 use Rattle.typed_tree.specs.declared.expression.Referent.TheVariants as referent
+use Rattle.typed_tree.specs.declared.names.HostSignature.{HostSignature}
 use Rattle.typed_tree.specs.declared.names.Meaning.{Meaning}
 use Rattle.typed_tree.specs.declared.names.Meaning.TheVariants as meaning
 use Rattle.typed_tree.specs.Names.{Name, meaning_of}
-use Rattle.typed_tree.specs.Expressions.{found, whole_rule, no_value, value_rule, set_member, own_member, end_member, member_rule, name_rule, ranked, reference_rule, range_of}
+use Rattle.typed_tree.specs.Expressions.{called_or_named, found, host_in, host_named, scales_of, type_of, whole_rule, no_value, value_rule, set_member, own_member, end_member, member_rule, name_rule, ranked, reference_rule, range_of}
 use Rattle.typed_tree.specs.Lookups.{element_in, fields_of, find_field, over_set}
 use Rattle.typing_laws.specs.References.{Means, StandsFor, IsRanked}
 use Rattle.typing_laws.proofs.Steps.{same_Ok, and_then}
+use Rattle.typing_laws.proofs.CallFacts.{call_split, call_is}
 
 -- what was found by a rule
 found_split : (what : Referent) (rule : Result NodeType TypeKind) (done : Referent × NodeType) → found what rule ≡ Ok done
@@ -139,11 +142,55 @@ ranked_split (Some rank) what done is =
     let s = found_split what.0 (rank_rule what.1 rank) done is in
     (ap (λ d. d.0) s.2, subst (λ d. IsRanked (Some rank) what.1 d.1) s.2 (IsRanked.has_rank rank what.1 s.0 s.1))
 
--- what is found of a reference is what it stands for
-pub reference_stands : (env : Environment) (name : Name) (args : List TypedExpr) (field : Option Name) (field_args : List TypedExpr) (rank : Option ℕ) (done : Referent × NodeType)
-    → reference_rule env name args field field_args rank ≡ Ok done
-    → (view : NodeType) × StandsFor env name (map range_of args) field (map range_of field_args) done.0 view × IsRanked rank view done.1
-reference_stands env name args field field_args rank done is =
+-- a host function that is called
+pub record IsCall (env : Environment) (name : Name) (args : List TypedExpr) (field : Option Name) (field_args : List TypedExpr) (rank : Option ℕ) (done : Referent × NodeType) : Type 0 where
+  pub host : HostSignature
+  pub no_field : field ≡ None
+  pub no_index : field_args ≡ []
+  pub means : Means env name (meaning.Host host)
+  pub arguments : map type_of args ≡ map (type.Local Number) (scales_of host.arguments)
+  pub number : referent.Host host.number ≡ done.0
+  pub is_ranked : IsRanked rank (type.Local Number host.scale) done.1
+
+-- a name that stands for a value
+abbrev pub Named : Environment → Name → List TypedExpr → Option Name → List TypedExpr → Option ℕ → Referent × NodeType → Type 0
+Named env name args field field_args rank done =
+    (view : NodeType) × StandsFor env name (map range_of args) field (map range_of field_args) done.0 view × IsRanked rank view done.1
+
+host_meant : (m : Option Meaning) (host : HostSignature) → host_in m ≡ Some host → m ≡ Some (meaning.Host host)
+host_meant (Some (meaning.Host h)) host is = ap (λ o. option_map meaning.Host o) is
+host_meant other host is = absurd (cc)
+
+host_split : (env : Environment) (name : Name) (field : Option Name) (field_args : List TypedExpr) (host : HostSignature) → host_named env name field field_args ≡ Some host
+    → (field ≡ None) × (field_args ≡ []) × Means env name (meaning.Host host)
+host_split env name None [] host is = (refl, refl, host_meant (meaning_of env.names name) host is)
+host_split env name None (f ∷ field_args) host is = absurd (cc)
+host_split env name (Some field) field_args host is = absurd (cc)
+
+called : (env : Environment) (name : Name) (args : List TypedExpr) (field : Option Name) (field_args : List TypedExpr) (rank : Option ℕ) (done : Referent × NodeType)
+    (host : HostSignature) → host_named env name field field_args ≡ Some host
+    → (found (referent.Host host.number) (call_rule (scales_of host.arguments) host.scale (map type_of args)) >>= ranked rank) ≡ Ok done
+    → IsCall env name args field field_args rank done
+called env name args field field_args rank done host at is =
+    let rule = call_rule (scales_of host.arguments) host.scale (map type_of args) in
+    let w = and_then (found (referent.Host host.number) rule) (ranked rank) done is in
+    let s = found_split (referent.Host host.number) rule w.0 w.1 in
+    let c = call_split (scales_of host.arguments) host.scale (map type_of args) s.0 s.1 in
+    let r = ranked_split rank w.0 done w.2 in
+    let h = host_split env name field field_args host at in
+    record {
+      host = host;
+      no_field = h.0;
+      no_index = h.1;
+      means = h.2;
+      arguments = c.0;
+      number = ap (λ d. d.0) s.2 ∙ r.0;
+      is_ranked = subst (λ t. IsRanked rank t done.1) (sym (c.1 ∙ ap (λ d. d.1) s.2)) r.1;
+    }
+
+named : (env : Environment) (name : Name) (args : List TypedExpr) (field : Option Name) (field_args : List TypedExpr) (rank : Option ℕ) (done : Referent × NodeType)
+    → (name_rule env name (map range_of args) field (map range_of field_args) >>= ranked rank) ≡ Ok done → Named env name args field field_args rank done
+named env name args field field_args rank done is =
     let w = and_then (name_rule env name (map range_of args) field (map range_of field_args)) (ranked rank) done is in
     let r = ranked_split rank w.0 done w.2 in (
       w.0.1,
@@ -151,6 +198,17 @@ reference_stands env name args field field_args rank done is =
           (name_stands env name (map range_of args) field (map range_of field_args) w.0 w.1),
       r.1,
     )
+
+-- what is found of a reference is what it stands for, or what it calls
+pub reference_stands : (env : Environment) (name : Name) (args : List TypedExpr) (field : Option Name) (field_args : List TypedExpr) (rank : Option ℕ) (done : Referent × NodeType)
+    → reference_rule env name args field field_args rank ≡ Ok done → Named env name args field field_args rank done ⊎ IsCall env name args field field_args rank done
+unfolding called_or_named
+reference_stands env name args field field_args rank done is = by_host (host_named env name field field_args) refl is
+  where
+    by_host : (h : Option HostSignature) → host_named env name field field_args ≡ h → (called_or_named env h name args field field_args >>= ranked rank) ≡ Ok done
+        → Named env name args field field_args rank done ⊎ IsCall env name args field field_args rank done
+    by_host None at answers = inl (named env name args field field_args rank done answers)
+    by_host (Some host) at answers = inr (called env name args field field_args rank done host at answers)
 
 -- ---- the other way round
 
@@ -192,8 +250,36 @@ only_ranked : (rank : Option ℕ) (what : Referent) (view t : NodeType) → IsRa
 only_ranked rank what view t (IsRanked.no_rank u) = refl
 only_ranked rank what view t (IsRanked.has_rank r v u rule) = ap (found what) rule
 
+other_name : (env : Environment) (name : Name) (field_args : List TypedExpr) (m : Meaning) → Means env name m → host_in (Some m) ≡ None
+    → host_named env name None field_args ≡ None
+other_name env name [] m means other = ap host_in means ∙ other
+other_name env name (f ∷ field_args) m means other = refl
+
+no_host : (env : Environment) (name : Name) (places : List IndexRange) (field : Option Name) (indices : List IndexRange) (what : Referent) (t : NodeType)
+    → StandsFor env name places field indices what t → (field_args : List TypedExpr) → host_named env name field field_args ≡ None
+no_host env name places field indices what t (StandsFor.parameter n local scale entry u means rule) args = other_name env n args (meaning.Parameter local scale) means refl
+no_host env name places field indices what t (StandsFor.local_variable n local whole entry u means rule) args = other_name env n args (meaning.Local local whole) means refl
+no_host env name places field indices what t (StandsFor.turn n local range entry u means rule) args = other_name env n args (meaning.Turn local range) means refl
+no_host env name places field indices what t (StandsFor.variable n number u means) args = other_name env n args (meaning.Variable number u) means refl
+no_host env name places field indices what t (StandsFor.counter n local means) args = other_name env n args (meaning.Counter local) means refl
+no_host env name places field indices what t (StandsFor.own_field n element ps fi number f entry u means has rule) args = refl
+no_host env name places field indices what t (StandsFor.endpoint_field n element count ps fi number f entry u means has rule) args = refl
+no_host env name places field indices what t (StandsFor.set_field n set fi number f means at has) args = refl
+
 pub only_reference : (env : Environment) (name : Name) (args : List TypedExpr) (field : Option Name) (field_args : List TypedExpr) (rank : Option ℕ)
     (what : Referent) (view t : NodeType) → StandsFor env name (map range_of args) field (map range_of field_args) what view → IsRanked rank view t
     → reference_rule env name args field field_args rank ≡ Ok (what, t)
+unfolding called_or_named
 only_reference env name args field field_args rank what view t stands is =
-    ap (λ r. r >>= ranked rank) (only_name env name (map range_of args) field (map range_of field_args) what view stands) ∙ only_ranked rank what view t is
+    ap (λ h. called_or_named env h name args field field_args >>= ranked rank)
+    (no_host env name (map range_of args) field (map range_of field_args) what view stands field_args)
+    ∙ ap (λ r. r >>= ranked rank) (only_name env name (map range_of args) field (map range_of field_args) what view stands) ∙ only_ranked rank what view t is
+
+pub only_call : (env : Environment) (name : Name) (args : List TypedExpr) (rank : Option ℕ) (host : HostSignature) (t : NodeType)
+    → Means env name (meaning.Host host) → map type_of args ≡ map (type.Local Number) (scales_of host.arguments) → IsRanked rank (type.Local Number host.scale) t
+    → reference_rule env name args None [] rank ≡ Ok (referent.Host host.number, t)
+unfolding called_or_named
+only_call env name args rank host t means arguments is =
+    ap (λ m. called_or_named env (host_in m) name args None [] >>= ranked rank) means
+    ∙ ap (λ r. found (referent.Host host.number) r >>= ranked rank) (call_is (scales_of host.arguments) host.scale (map type_of args) arguments)
+    ∙ only_ranked rank (referent.Host host.number) (type.Local Number host.scale) t is

@@ -1,5 +1,5 @@
 -- What the definition answers of an expression is a typing of it.
-use Rattle.std.proofs.Common.{◌≡◌, ℕ, List, [], ◌∷◌, ◌++◌, map, Option, Some, None, Ok, refl, sym, ap, subst, ◌∙◌, append_assoc}
+use Rattle.std.proofs.Common.{◌≡◌, ◌⊎◌, inl, inr, ℕ, suc, List, [], ◌∷◌, ◌++◌, map, Option, Some, None, Ok, refl, sym, ap, subst, ◌∙◌, append_assoc}
 use Rattle.std.proofs.lemmas.List.{append-nil}
 use Rattle.vocabulary.specs.Answers.{◌>>=◌, fold_result}
 use Rattle.sim_syntax.specs.declared.expression.Expr as tree
@@ -25,14 +25,14 @@ use Rattle.typed_tree.specs.Literals.{whole}
 use Rattle.typed_tree.specs.Names.{Name}
 use Rattle.typed_tree.specs.Steps.{Step, at_line, several}
 use Rattle.typed_tree.specs.Expressions.{SignedStep, Chain, numbered, reference, reference_rule, block_of_rows, block_at, row_types, sum, product, chained, with_term, with_factor, sum_node, product_node, expression}
-use Rattle.typing_laws.specs.Expressions.{IsTyping, AreTypings, AreRowTypings, AreTermTypings, AreFactorTypings, at_node}
+use Rattle.typing_laws.specs.Expressions.{IsTyping, AreTypings, AreRowTypings, AreTermTypings, AreFactorTypings, at_node, node_at}
 use Rattle.typing_laws.specs.Expressions.AreTypings.{none, one_more}
 use Rattle.typing_laws.specs.Expressions.AreRowTypings.{no_row, another_row}
 use Rattle.typing_laws.specs.Expressions.AreTermTypings.{no_term, another_term}
 use Rattle.typing_laws.specs.Expressions.AreFactorTypings.{no_factor, another_factor}
 use Rattle.typing_laws.proofs.Steps.{same_Ok, and_then, at_line_Ok, several_split}
 use Rattle.typing_laws.proofs.Nodes.{term_of, factor_of, row_of, term_is, factor_is, row_is, number_is, reference_is, block_is, sum_is, product_is, transposed_is, rescale_is, quot_is, isqrt_is, dot_is, unary_split, binary_split, number_split}
-use Rattle.typing_laws.proofs.ReferenceFacts.{reference_stands}
+use Rattle.typing_laws.proofs.ReferenceFacts.{IsCall, Named, reference_stands}
 use Rattle.typing_laws.proofs.Chains.{sum_node_split, product_node_split, chained_split}
 
 -- what the definition answers of an expression is a typing of it
@@ -163,14 +163,37 @@ reference_split env line name args field field_args rank from done is =
     let w = and_then (at_line line rule) (λ w. Ok (numbered f.0.1 line w.1 (form.Ref w.0 a.0.0 f.0.0))) done f.2 in
     (a.0, f.0, w.0, a.1, f.1, at_line_Ok line rule w.0 w.1, same_Ok (numbered f.0.1 line w.0.1 (form.Ref w.0.0 a.0.0 f.0.0)) done w.2)
 
+-- what has no typed expressions is empty
+none_typed : (env : Environment) (es : List tree.Expr) (ts : List TypedExpr) (from to : ℕ) → AreTypings env es ts from to → ts ≡ [] → (es ≡ []) × (from ≡ to)
+none_typed env es ts from to (none here) is = (refl, refl)
+none_typed env es ts from to (one_more e rest t others here middle end first next) is = absurd (cc)
+
+called_sound : (env : Environment) (line : ℕ) (name : Name) (args : List tree.Expr) (field : Option Name) (field_args : List tree.Expr) (rank : Option ℕ)
+    (from middle to : ℕ) (as_typed fs_typed : List TypedExpr) (what : Referent × NodeType)
+    → AreTypings env args as_typed from middle → AreTypings env field_args fs_typed middle to → IsCall env name as_typed field fs_typed rank what
+    → IsTyping env (expr.Ref line name args field field_args rank) (at_node (node_at to line what.1) (form.Ref what.0 as_typed fs_typed)) from (suc to)
+called_sound env line name args field field_args rank from middle to as_typed fs_typed what first second is =
+    let nothing = none_typed env field_args fs_typed middle to second is.no_index in
+    let made : TypedExpr = at_node (node_at to line what.1) (form.Ref what.0 as_typed []) in
+    subst (λ f. IsTyping env (expr.Ref line name args f field_args rank) (at_node (node_at to line what.1) (form.Ref what.0 as_typed fs_typed)) from (suc to)) (sym is.no_field)
+    (subst (λ fs. IsTyping env (expr.Ref line name args None field_args rank) (at_node (node_at to line what.1) (form.Ref what.0 as_typed fs)) from (suc to)) (sym is.no_index)
+    (subst (λ es. IsTyping env (expr.Ref line name args None es rank) made from (suc to)) (sym nothing.0)
+    (subst (λ w. IsTyping env (expr.Ref line name args None [] rank) (at_node (node_at to line what.1) (form.Ref w as_typed [])) from (suc to)) is.number
+    (IsTyping.call line name args rank as_typed is.host what.1 from to (subst (λ n. AreTypings env args as_typed from n) nothing.1 first) is.means is.arguments is.is_ranked))))
+
 reference_sound : (env : Environment) (line : ℕ) (name : Name) (args : List tree.Expr) (field : Option Name) (field_args : List tree.Expr) (rank : Option ℕ)
     → AreSound env args → AreSound env field_args → Sound env (expr.Ref line name args field field_args rank)
 reference_sound env line name args field field_args rank first second from done is =
     let s = reference_split env line name (map (expression env) args) field (map (expression env) field_args) rank from done
     (formed from done (reference_is env line name args field field_args rank) is) in
-    let r = reference_stands env name s.0.0 field s.1.0 rank s.2 s.5 in
     subst (λ d. IsTyping env (expr.Ref line name args field field_args rank) d.0 from d.1) s.6
-    (IsTyping.reference line name args field field_args rank s.0.0 s.1.0 s.2.0 r.0 s.2.1 from s.0.1 s.1.1 (first from s.0 s.3) (second s.0.1 s.1 s.4) r.1 r.2)
+    (by_name s.0 s.1 s.2 (first from s.0 s.3) (second s.0.1 s.1 s.4) (reference_stands env name s.0.0 field s.1.0 rank s.2 s.5))
+  where
+    by_name : (a f : List TypedExpr × ℕ) (what : Referent × NodeType) → AreTypings env args a.0 from a.1 → AreTypings env field_args f.0 a.1 f.1
+        → Named env name a.0 field f.0 rank what ⊎ IsCall env name a.0 field f.0 rank what
+        → IsTyping env (expr.Ref line name args field field_args rank) (numbered f.1 line what.1 (form.Ref what.0 a.0 f.0)).0 from (numbered f.1 line what.1 (form.Ref what.0 a.0 f.0)).1
+    by_name a f what before after (inl r) = IsTyping.reference line name args field field_args rank a.0 f.0 what.0 r.0 what.1 from a.1 f.1 before after r.1 r.2
+    by_name a f what before after (inr call) = called_sound env line name args field field_args rank from a.1 f.1 a.0 f.0 what before after call
 
 in_function : (level : Level) (rows : List TypedRow) (type : NodeType) → block_at level rows ≡ Ok type → (level ≡ Function) × (block_rule (map row_types rows) ≡ Ok type)
 in_function Function rows type is = (refl, is)

@@ -1,6 +1,7 @@
 -- Which declarations are typings of a declaration: what each makes known, after the declarations before it.
 use Rattle.std.specs.Prelude.{◌≡◌, ℕ, suc, ◌+◌, ◌<◌, ◌≤◌, List, [], ◌∷◌, ◌++◌, length, map, codes, slice_get, Option, Some, None}
 use Rattle.vocabulary.specs.declared.limits.TheConstants.{MOST_ARGUMENTS, MOST_COLUMNS, MOST_ENDPOINTS, MOST_FIELD_SCALE, MOST_FIELDS, MOST_FUNCTION_COST, MOST_RESULTS, MOST_SCALE, MOST_SETS, MOST_SIDE}
+use Rattle.host_table.specs.declared.table.HostName.{HostName}
 use Rattle.sim_syntax.specs.declared.declaration.Decl.{Decl}
 use Rattle.sim_syntax.specs.declared.declaration.Decl.TheVariants as decl
 use Rattle.sim_syntax.specs.declared.declaration.Field.{Field}
@@ -24,6 +25,8 @@ use Rattle.typed_tree.specs.declared.function.ParameterType.TheVariants as param
 use Rattle.typed_tree.specs.declared.function.Signature.{Signature}
 use Rattle.typed_tree.specs.declared.function.TypedFunction.{TypedFunction}
 use Rattle.typed_tree.specs.declared.function.TypedResult.{TypedResult}
+use Rattle.typed_tree.specs.declared.names.HostArguments.{HostArguments}
+use Rattle.typed_tree.specs.declared.names.HostArguments.TheVariants as arguments
 use Rattle.typed_tree.specs.declared.names.Meaning.TheVariants as meaning
 use Rattle.typed_tree.specs.declared.program.ElementType.{ElementType}
 use Rattle.typed_tree.specs.declared.program.TypedField.{TypedField}
@@ -140,6 +143,20 @@ pub data AreResults : ℕ → List ResultDecl → List NodeType → Walk → Wal
       → IsResult walk.environment r type → IsNew walk r.name → AreResults (suc number) rs types (naming walk r.name (meaning.Result number type)) after
       → AreResults number (r ∷ rs) (type ∷ types) walk after
 
+-- ---- host functions
+
+-- a host function stands at a number of the table: its entry has the name, and no earlier one has it
+pub record IsHost (hosts : List HostName) (name : Name) (number : ℕ) (host : HostName) : Type 0 where
+  pub entry : slice_get hosts number ≡ Some host
+  pub has_name : host.name ≡ name
+  pub first : (earlier : ℕ) (other : HostName) → earlier < number → slice_get hosts earlier ≡ Some other → other.name ≡ name → ⊥
+
+-- the scales of the arguments of a host function, which are one or two
+pub data AreHostArguments : List (List ℕ) → HostArguments → Type 0 where
+  one : (digits : List ℕ) (scale : ℕ) → IsWhole MOST_SCALE digits scale → AreHostArguments (digits ∷ []) (arguments.One scale)
+  two : (first_digits second_digits : List ℕ) (first second : ℕ) → IsWhole MOST_SCALE first_digits first → IsWhole MOST_SCALE second_digits second
+      → AreHostArguments (first_digits ∷ second_digits ∷ []) (arguments.Two first second)
+
 -- ---- declarations
 
 -- what is declared, with an element type, a set or a function more
@@ -165,17 +182,17 @@ function_with name signature results body = record {
   body = body;
 }
 
--- From what is known before a declaration to what is known after it: it has a new name, which stands for the next of its
--- sort. A function of the host has no typing.
-pub data IsDeclaration : Decl → Walk → Walk → Type 0 where
+-- From what is known before a declaration to what is known after it, by what the host offers: it has a new name, which
+-- stands for the next of its sort, or for a function of the host.
+pub data IsDeclaration (hosts : List HostName) : Decl → Walk → Walk → Type 0 where
   element_type : (line : ℕ) (name : Name) (fields : List Field) (typed : List TypedField) (walk : Walk)
       → AreFields [] fields typed → length typed ≤ MOST_FIELDS → IsNew walk name
-      → IsDeclaration (decl.Element line name fields) walk
+      → IsDeclaration hosts (decl.Element line name fields) walk
       (declaring walk (and_element walk.environment.declarations (record { fields = typed })) name (meaning.Element (length walk.environment.declarations.elements)))
   new_set : (line : ℕ) (name element_name : Name) (ends : List Name) (element : ℕ) (over : Option ℕ) (walk : Walk)
       → Means walk.environment element_name (meaning.Element element) → LieIn walk.environment ends over → length ends ≤ MOST_ENDPOINTS
       → HasColumns (length ends) (fields_of walk.environment.declarations element) → length walk.environment.declarations.sets < MOST_SETS → IsNew walk name
-      → IsDeclaration (decl.Set line name element_name ends) walk
+      → IsDeclaration hosts (decl.Set line name element_name ends) walk
       (declaring walk (and_set walk.environment.declarations (record { name = name; shape = record { element = element; over = over; arity = length ends } }))
       name (meaning.Set (length walk.environment.declarations.sets)))
   new_function : (line : ℕ) (name : Name) (params : List Param) (results : List ResultDecl) (body : List Stmt) (types : List ParameterType) (signature : Signature)
@@ -184,12 +201,16 @@ pub data IsDeclaration : Decl → Walk → Walk → Type 0 where
       → AreTypedResults done 0 result_types typed
       → IsSignature types signature → length signature.arguments ≤ MOST_ARGUMENTS → length result_types ≤ MOST_RESULTS → body_cost done ≤ MOST_FUNCTION_COST
       → IsNew walk name
-      → IsDeclaration (decl.Func line name params results body) walk
+      → IsDeclaration hosts (decl.Func line name params results body) walk
       (declaring (leaving walk after) (and_function after.environment.declarations (function_with name signature typed done))
       name (meaning.Function (length after.environment.declarations.functions)))
+  host_function : (line : ℕ) (name : Name) (args : List (List ℕ)) (result : List ℕ) (number : ℕ) (host : HostName) (scales : HostArguments) (scale : ℕ) (walk : Walk)
+      → IsHost hosts name number host → length args ≡ host.arity → AreHostArguments args scales → IsWhole MOST_SCALE result scale → IsNew walk name
+      → IsDeclaration hosts (decl.Host line name args result) walk
+      (naming walk name (meaning.Host (record { number = number; arguments = scales; scale = scale })))
 
 -- declarations one after the other
-pub data AreDeclarations : List Decl → Walk → Walk → Type 0 where
-  none : (walk : Walk) → AreDeclarations [] walk walk
+pub data AreDeclarations (hosts : List HostName) : List Decl → Walk → Walk → Type 0 where
+  none : (walk : Walk) → AreDeclarations hosts [] walk walk
   one_more : (d : Decl) (ds : List Decl) (before between after : Walk)
-      → IsDeclaration d before between → AreDeclarations ds between after → AreDeclarations (d ∷ ds) before after
+      → IsDeclaration hosts d before between → AreDeclarations hosts ds between after → AreDeclarations hosts (d ∷ ds) before after

@@ -6,9 +6,12 @@ use Rattle.sim_syntax.specs.declared.expression.Row.{Row}
 use Rattle.sim_syntax.specs.declared.expression.SumTerm.{SumTerm}
 use Rattle.sim_syntax.specs.declared.expression.ProductFactor.{ProductFactor}
 use Rattle.type_rules.specs.Rules.{literal_rule, same_rule, product_rule, entrywise_rule, dot_rule, rescale_rule, quot_rule, isqrt_rule, transposed_rule, block_rule}
+use Rattle.type_rules.specs.declared.types.BlockShape.TheVariants.{Number}
 use Rattle.type_rules.specs.declared.types.NodeType.{NodeType}
+use Rattle.type_rules.specs.declared.types.NodeType.TheVariants.{Local}
 use Rattle.typed_tree.specs.declared.expression.Node.{Node}
 use Rattle.typed_tree.specs.declared.expression.Referent.{Referent}
+use Rattle.typed_tree.specs.declared.expression.Referent.TheVariants as referent
 use Rattle.typed_tree.specs.declared.expression.TypedExpr.{TypedExpr, roll-TypedExpr}
 use Rattle.typed_tree.specs.declared.expression.TypedForm.{TypedForm}
 use Rattle.typed_tree.specs.declared.expression.TypedForm.TheVariants as form
@@ -17,10 +20,12 @@ use Rattle.typed_tree.specs.declared.expression.TypedTerm.{TypedTerm, roll-Typed
 use Rattle.typed_tree.specs.declared.expression.TypedFactor.{TypedFactor, roll-TypedFactor}
 use Rattle.typed_tree.specs.declared.environment.Environment.{Environment}
 use Rattle.typed_tree.specs.declared.environment.Level.TheVariants.{Function}
+use Rattle.typed_tree.specs.declared.names.HostSignature.{HostSignature}
+use Rattle.typed_tree.specs.declared.names.Meaning.TheVariants as meaning
 use Rattle.typed_tree.specs.Names.{Name}
 use Rattle.typed_tree.specs.Literals.{decimals_of, literal_word, whole}
-use Rattle.typed_tree.specs.Expressions.{type_of, range_of, row_types}
-use Rattle.typing_laws.specs.References.{StandsFor, IsRanked}
+use Rattle.typed_tree.specs.Expressions.{type_of, range_of, row_types, scales_of}
+use Rattle.typing_laws.specs.References.{Means, StandsFor, IsRanked}
 
 -- a node of this number, line and type
 abbrev pub node_at : ℕ → ℕ → NodeType → Node
@@ -57,6 +62,10 @@ mutual
         → AreTypings env args typed_args from middle → AreTypings env field_args typed_field_args middle to
         → StandsFor env name (map range_of typed_args) field (map range_of typed_field_args) what view → IsRanked rank view type
         → IsTyping env (expr.Ref line name args field field_args rank) (at_node (node_at to line type) (form.Ref what typed_args typed_field_args)) from (suc to)
+    call : (line : ℕ) (name : Name) (args : List tree.Expr) (rank : Option ℕ) (typed_args : List TypedExpr) (host : HostSignature) (type : NodeType) (from to : ℕ)
+        → AreTypings env args typed_args from to → Means env name (meaning.Host host)
+        → map type_of typed_args ≡ map (Local Number) (scales_of host.arguments) → IsRanked rank (Local Number host.scale) type
+        → IsTyping env (expr.Ref line name args None [] rank) (at_node (node_at to line type) (form.Ref (referent.Host host.number) typed_args [])) from (suc to)
     block : (line : ℕ) (rows : List Row) (rs : List TypedRow) (type : NodeType) (from to : ℕ)
         → AreRowTypings env rows rs from to → env.level ≡ Function → block_rule (map row_types rs) ≡ Ok type
         → IsTyping env (expr.Block line rows) (at_node (node_at to line type) (form.Block rs)) from (suc to)

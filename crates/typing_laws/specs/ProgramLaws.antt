@@ -1,5 +1,6 @@
 -- The laws of the judgement of a program's declarations, and of the whole.
-use Rattle.std.specs.Prelude.{◌≡◌, Result, Ok, Err}
+use Rattle.std.specs.Prelude.{◌≡◌, List, Result, Ok, Err}
+use Rattle.host_table.specs.declared.table.HostName.{HostName}
 use Rattle.typed_tree.specs.declared.fault.CheckFault.{CheckFault}
 use Rattle.typed_tree.specs.Typed.{declared, typed}
 use Rattle.typing_laws.specs.Declarations.{AreDeclarations}
@@ -16,7 +17,7 @@ pub record AnswerLaws {A B : Type 0} (known : A → Result B CheckFault) (judged
   pub refused : (x : A) (y : B) (fault : CheckFault) → known x ≡ Err fault → judged x y → ⊥
 
 abbrev pub DeclarationLaws : Type 0
-DeclarationLaws = AnswerLaws declared (λ decls walk. AreDeclarations decls at_first walk)
+DeclarationLaws = (hosts : List HostName) → AnswerLaws (declared hosts) (λ decls walk. AreDeclarations hosts decls at_first walk)
 
 abbrev pub ProgramLaws : Type 0
-ProgramLaws = AnswerLaws typed IsProgramTyping
+ProgramLaws = (hosts : List HostName) → AnswerLaws (typed hosts) (IsProgramTyping hosts)

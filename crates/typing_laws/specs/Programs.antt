@@ -1,5 +1,6 @@
 -- Which typed programs are typings of a program.
 use Rattle.std.specs.Prelude.{List, []}
+use Rattle.host_table.specs.declared.table.HostName.{HostName}
 use Rattle.sim_syntax.specs.declared.program.Program.{Program}
 use Rattle.typed_tree.specs.declared.environment.Declarations.{Declarations}
 use Rattle.typed_tree.specs.declared.environment.Level.TheVariants.{Function, Main}
@@ -38,8 +39,8 @@ program_with tree known body = record {
   body = body;
 }
 
--- a program: its declarations, and its main procedure after them
-pub data IsProgramTyping : Program → TypedProgram → Type 0 where
+-- a program, by what the host offers: its declarations, and its main procedure after them
+pub data IsProgramTyping (hosts : List HostName) : Program → TypedProgram → Type 0 where
   program : (tree : Program) (declared after : Walk) (body : List MainStmt)
-      → AreDeclarations tree.decls at_first declared → IsMainBodyTyping tree.body body (before_main declared) after
-      → IsProgramTyping tree (program_with tree after.environment.declarations body)
+      → AreDeclarations hosts tree.decls at_first declared → IsMainBodyTyping tree.body body (before_main declared) after
+      → IsProgramTyping hosts tree (program_with tree after.environment.declarations body)

@@ -27,6 +27,12 @@ first_index Whole = 0
 first_index (One index) = index
 first_index (Two row column) = row
 
+-- the second of two; 0 where there are not two
+abbrev pub second_index : Indices → ℕ
+second_index Whole = 0
+second_index (One index) = 0
+second_index (Two row column) = column
+
 -- a whole value, or one of its entries
 abbrev pub part_at : Value → Indices → Value
 part_at value Whole = value
@@ -40,6 +46,7 @@ referred_at scope (referent.Turn local range) args indices = value_at scope.loca
 referred_at scope (referent.Field set field) args indices = set_field scope set field
 referred_at scope (referent.Own field) args indices = part_at (own_field scope scope.place field) indices
 referred_at scope (referent.End field) args indices = part_at (end_field scope scope.place (first_index args) field) indices
+referred_at scope (referent.Host host) args indices = number (scope.program.answer host (first_index args) (second_index args))
 
 -- the first word of what an expression means
 abbrev pub first_meant : Meant → Result ℕ TrapKind

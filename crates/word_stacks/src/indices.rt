@@ -3,7 +3,8 @@
 ghost use Rattle.std.specs.Prelude.{◌≡◌};
 ghost use Rattle.word_stacks.specs.References as spec;
 
-/// The indices after a name: none, where the whole value is named, one or two. Further ones name nothing.
+/// The indices after a name, or the arguments of a call: none, where the whole value is named, one or two. Further ones
+/// name nothing.
 #[derive(Clone, Copy, Debug, PartialEq, Eq)]
 pub enum Indices {
     Whole,
@@ -30,6 +31,15 @@ impl Indices {
         match self {
             Indices::Whole => 0,
             Indices::One(index) | Indices::Two(index, _) => index,
+        }
+    }
+    /// The second of two; 0 where there are not two.
+    pub fn second(self) -> u64
+        ensures { result ≡ spec.second_index self }
+    {
+        match self {
+            Indices::Whole | Indices::One(_) => 0,
+            Indices::Two(_, column) => column,
         }
     }
 }

@@ -15,13 +15,11 @@ use crate::products::word_in;
 use crate::stack::push_all;
 use crate::words::Words;
 use algebra_meaning::{end_of, over};
+use host_table::HostMeaning;
 use hypergraph::Sets;
 use type_rules::BlockShape;
 use typed_tree::{Referent, TypedField};
-use value_algebra::{
-    block_of, count, element_in, entries, entry_of, fields_of, first_column, push_element,
-    push_over,
-};
+use value_algebra::{block_of, count, entries, entry_of, first_column, push_element, push_over};
 use vocabulary::NoMemory;
 
 /// Puts a value of this size onto the stack, or reads its word where it is a number.
@@ -71,8 +69,8 @@ fn nothing(indices: Indices, stack: &mut Vec<u64>) -> Result<Operand, NoMemory>
 }
 
 /// A local, or an entry of it.
-fn local(
-    scope: &Words<'_>,
+fn local<H: HostMeaning>(
+    scope: &Words<'_, H>,
     number: u32,
     indices: Indices,
     stack: &mut Vec<u64>,
@@ -194,17 +192,17 @@ fn field_part(
 }
 
 /// A field of a function's element, or an entry of it.
-fn own_field(
-    scope: &Words<'_>,
+fn own_field<H: HostMeaning>(
+    scope: &Words<'_, H>,
     field: u32,
     indices: Indices,
     stack: &mut Vec<u64>,
 ) -> Result<Operand, NoMemory>
-    ensures value { IfOk result (λ operand. value_of operand (drop (length stack.old.items) stack.new.items) ≡ spec.part_at (expression.own_field scope.now scope.now.place field) indices) }
+    ensures value { IfOk result (λ operand. value_of operand (drop (length stack.old.items) stack.new.items) ≡ spec.part_at (expression.own_field (expression.hosted H.answer scope.now) scope.now.place field) indices) }
     ensures kept { OnOk result (take (length stack.old.items) stack.new.items ≡ stack.old.items) }
 {
     let place = scope.place;
-    let fields = fields_of(scope.program.elements.items(), place.own);
+    let fields = scope.program.element_fields(place.own);
     field_part(
         fields,
         scope.sets,
@@ -217,8 +215,8 @@ fn own_field(
 }
 
 /// A field of an element of a set in which endpoints lie, or an entry of it.
-fn field_in(
-    scope: &Words<'_>,
+fn field_in<H: HostMeaning>(
+    scope: &Words<'_, H>,
     element_type: u32,
     set: Option<u32>,
     element: u32,
@@ -226,27 +224,27 @@ fn field_in(
     indices: Indices,
     stack: &mut Vec<u64>,
 ) -> Result<Operand, NoMemory>
-    ensures value { IfOk result (λ operand. value_of operand (drop (length stack.old.items) stack.new.items) ≡ spec.part_at (expression.field_in scope.now element_type set element field) indices) }
+    ensures value { IfOk result (λ operand. value_of operand (drop (length stack.old.items) stack.new.items) ≡ spec.part_at (expression.field_in (expression.hosted H.answer scope.now) element_type set element field) indices) }
     ensures kept { OnOk result (take (length stack.old.items) stack.new.items ≡ stack.old.items) }
 {
     match set {
         None => nothing(indices, stack),
         Some(set) => {
-            let fields = fields_of(scope.program.elements.items(), element_type);
+            let fields = scope.program.element_fields(element_type);
             field_part(fields, scope.sets, set, field, element, indices, stack)
         }
     }
 }
 
 /// A field of an endpoint of a function's element, or an entry of it.
-fn end_field(
-    scope: &Words<'_>,
+fn end_field<H: HostMeaning>(
+    scope: &Words<'_, H>,
     position: u64,
     field: u32,
     indices: Indices,
     stack: &mut Vec<u64>,
 ) -> Result<Operand, NoMemory>
-    ensures value { IfOk result (λ operand. value_of operand (drop (length stack.old.items) stack.new.items) ≡ spec.part_at (expression.end_field scope.now scope.now.place position field) indices) }
+    ensures value { IfOk result (λ operand. value_of operand (drop (length stack.old.items) stack.new.items) ≡ spec.part_at (expression.end_field (expression.hosted H.answer scope.now) scope.now.place position field) indices) }
     ensures kept { OnOk result (take (length stack.old.items) stack.new.items ≡ stack.old.items) }
 {
     let place = scope.place;
@@ -262,17 +260,16 @@ fn end_field(
 
 /// A field of a set.
 #[tactic(auto, unfolding(value_algebra::specs::Fields::field_over))]
-fn set_field(
-    scope: &Words<'_>,
+fn set_field<H: HostMeaning>(
+    scope: &Words<'_, H>,
     set: u32,
     field: u32,
     stack: &mut Vec<u64>,
 ) -> Result<Operand, NoMemory>
-    ensures value { IfOk result (λ operand. value_of operand (drop (length stack.old.items) stack.new.items) ≡ expression.set_field scope.now set field) }
+    ensures value { IfOk result (λ operand. value_of operand (drop (length stack.old.items) stack.new.items) ≡ expression.set_field (expression.hosted H.answer scope.now) set field) }
     ensures kept { OnOk result (take (length stack.old.items) stack.new.items ≡ stack.old.items) }
 {
-    let element = element_in(scope.program.sets.items(), set);
-    let fields = fields_of(scope.program.elements.items(), element);
+    let fields = scope.program.set_fields(set);
     let size = entries(block_of(fields, field));
     let Some(rows) = u64::from(count(scope.sets, set)).checked_mul(size) else {
         return Err(NoMemory);
@@ -285,7 +282,11 @@ fn set_field(
 }
 
 /// A variable of the main procedure, of which a function has none.
-fn variable(scope: &Words<'_>, number: u32, stack: &mut Vec<u64>) -> Result<Operand, NoMemory>
+fn variable<H: HostMeaning>(
+    scope: &Words<'_, H>,
+    number: u32,
+    stack: &mut Vec<u64>,
+) -> Result<Operand, NoMemory>
     ensures value { IfOk result (λ operand. value_of operand (drop (length stack.old.items) stack.new.items) ≡ expression.value_at scope.now.variables number) }
     ensures kept { OnOk result (take (length stack.old.items) stack.new.items ≡ stack.old.items) }
 {
@@ -294,14 +295,14 @@ fn variable(scope: &Words<'_>, number: u32, stack: &mut Vec<u64>) -> Result<Oper
 }
 
 /// What a name stands for, by its arguments and the indices after the point.
-pub fn referred(
-    scope: &Words<'_>,
+pub fn referred<H: HostMeaning>(
+    scope: &Words<'_, H>,
     referent: Referent,
     args: Indices,
     indices: Indices,
     stack: &mut Vec<u64>,
 ) -> Result<Operand, NoMemory>
-    ensures value { IfOk result (λ operand. value_of operand (drop (length stack.old.items) stack.new.items) ≡ spec.referred_at scope.now referent args indices) }
+    ensures value { IfOk result (λ operand. value_of operand (drop (length stack.old.items) stack.new.items) ≡ spec.referred_at (expression.hosted H.answer scope.now) referent args indices) }
     ensures kept { OnOk result (take (length stack.old.items) stack.new.items ≡ stack.old.items) }
 {
     match referent {
@@ -311,5 +312,9 @@ pub fn referred(
         Referent::Field { set, field } => set_field(scope, set, field, stack),
         Referent::Own { field } => own_field(scope, field, indices, stack),
         Referent::End { field } => end_field(scope, args.first(), field, indices, stack),
+        Referent::Host(host) => {
+            let answer = scope.program.call(host, args.first(), args.second());
+            Ok(Operand::Number(answer))
+        }
     }
 }

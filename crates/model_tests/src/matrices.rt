@@ -1,7 +1,6 @@
 //! Assembled matrices: what is put at their places, their products with vectors, their transposes, and the sets of their sides.
-use crate::calls::{done, refused};
-use crate::runs::{Row, assert_printed, assert_run};
 use std::test::Fail;
+use test_calls::{Row, assert_printed, assert_run, done, refused};
 use worked_texts::{DOUBLED, POINTS, POINTS_AND_SPRINGS, RATIO, SPRINGS, STIFF, STIFFNESS};
 
 /// Programs, their tables, and what is printed.

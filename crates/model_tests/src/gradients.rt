@@ -1,8 +1,8 @@
 //! Conjugate gradients in fixed point, over 100 nodes and 400 links.
-use crate::calls::{Call, output_of};
 use std::alloc::{AllocError, Global};
 use std::process::Abort;
 use std::test::Fail;
+use test_calls::{Call, output_of};
 use worked_texts::GRADIENTS;
 
 /// The table of the nodes: loads of 0 to 9, and no displacements.

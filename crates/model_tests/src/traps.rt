@@ -1,8 +1,7 @@
 //! Traps: the line and the element that are named, and that nothing is put out.
-use crate::calls::ended;
-use crate::runs::{ONE_AND_TWO, ONE_SET, Row, assert_run};
 use simit_run::Status;
 use std::test::Fail;
+use test_calls::{ONE_AND_TWO, ONE_SET, Row, assert_run, ended};
 use worked_texts::{POINTS, POINTS_AND_SPRINGS, RATIO};
 
 /// Two maps after each other, each of which divides by what may be zero.

@@ -1,6 +1,6 @@
 //! Functions of maps: arguments, results, and the places that an element writes.
-use crate::runs::{Row, assert_printed};
 use std::test::Fail;
+use test_calls::{Row, assert_printed};
 use worked_texts::{POINTS, POINTS_AND_SPRINGS, SPRINGS, SUMMED};
 
 /// Programs, their tables, and what is printed.

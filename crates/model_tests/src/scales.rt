@@ -1,6 +1,6 @@
 //! Scales: numbers that are rescaled and divided.
-use crate::runs::{Row, assert_printed};
 use std::test::Fail;
+use test_calls::{Row, assert_printed};
 
 /// Programs, their tables, and what is printed.
 static PRINTED: [Row; 5] = [

@@ -1,8 +1,7 @@
 //! Loops, branches and conditions of the main procedure, and how many turns loops may take.
-use crate::calls::{done, ended};
-use crate::runs::{ONE_AND_TWO, ONE_SET, Row, assert_printed, assert_run};
 use simit_run::Status;
 use std::test::Fail;
+use test_calls::{ONE_AND_TWO, ONE_SET, Row, assert_printed, assert_run, done, ended};
 
 /// Programs, their tables, and what is printed.
 static PRINTED: [Row; 5] = [

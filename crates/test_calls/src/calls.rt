@@ -1,8 +1,8 @@
 //! Calls of `run` over memory, and how they end.
+use main_hosts::main_hosts;
 use simit_io::{MemFile, MemInputs, MemSink};
 use simit_run::{Status, run};
 use std::alloc::{AllocError, Global};
-use std::process::Abort;
 use std::test::Fail;
 use vocabulary::{L, Text};
 
@@ -115,9 +115,18 @@ fn sink(alloc: Global, failing: u64, put: usize) -> Result<MemSink, Fail> {
     Ok(MemSink::new(alloc, 1 << 24, failing, put.max(1))?)
 }
 
+/// Asserts which bytes a call put.
+fn same_bytes(what: &str, case: &str, put: &[u8], wanted: &[u8]) -> Result<(), Fail> {
+    if put == wanted {
+        Ok(())
+    } else {
+        Err(Fail::new(format_args!("{what} of {case}: {put:?}, not {wanted:?}")))
+    }
+}
+
 /// Asserts how a call ends.
 pub fn assert_end(
-    rt: &(impl Abort + AllocGlobal),
+    rt: &impl AllocGlobal,
     case: &str,
     call: Call<'_>,
     end: End<'_>,
@@ -127,30 +136,39 @@ pub fn assert_end(
     let mut inputs = inputs_of(alloc, call)?;
     let mut out = sink(alloc, call.out, call.put)?;
     let mut notes = sink(alloc, call.notes, call.put)?;
-    let status = run(alloc, &words, &mut inputs, &mut out, &mut notes);
-    assert_eq!(rt; status, end.status, "status of {case}");
-    assert_eq!(rt; out.bytes(), end.out, "output of {case}");
-    assert_eq!(rt; notes.bytes(), end.note, "note of {case}");
-    assert_eq!(rt; inputs.fault_count(), end.faults, "faults of {case}");
+    let hosts = main_hosts(alloc)?;
+    let status = run(alloc, &words, &mut inputs, &mut out, &mut notes, &hosts);
+    if status != end.status {
+        let wanted = end.status;
+        return Err(Fail::new(format_args!("status of {case}: {status:?}, not {wanted:?}")));
+    }
+    same_bytes("output", case, out.bytes(), end.out)?;
+    same_bytes("note", case, notes.bytes(), end.note)?;
+    let (counted, wanted) = (inputs.fault_count(), end.faults);
+    if counted != wanted {
+        return Err(Fail::new(format_args!("faults of {case}: {counted}, not {wanted}")));
+    }
     Ok(())
 }
 
 /// The output of a call that is done.
-pub fn output_of(rt: &(impl Abort + AllocGlobal), call: Call<'_>) -> Result<Vec<u8>, Fail> {
+pub fn output_of(rt: &impl AllocGlobal, call: Call<'_>) -> Result<Vec<u8>, Fail> {
     let alloc = rt.alloc();
     let words = strings(alloc, call.words)?;
     let mut inputs = inputs_of(alloc, call)?;
     let mut out = sink(alloc, call.out, call.put)?;
     let mut notes = sink(alloc, call.notes, call.put)?;
-    let status = run(alloc, &words, &mut inputs, &mut out, &mut notes);
-    assert_eq!(rt; status, Status::Done);
-    assert!(rt; notes.bytes().is_empty());
+    let hosts = main_hosts(alloc)?;
+    let status = run(alloc, &words, &mut inputs, &mut out, &mut notes, &hosts);
+    if status != Status::Done || !notes.bytes().is_empty() {
+        return Err(Fail::new("a call that isn't done"));
+    }
     Ok(out.bytes().to_vec(alloc)?)
 }
 
 /// Asserts how `run a.sim points.csv` ends over these two files.
 pub fn assert_over_points(
-    rt: &(impl Abort + AllocGlobal),
+    rt: &impl AllocGlobal,
     case: &str,
     program: &[u8],
     points: &[u8],

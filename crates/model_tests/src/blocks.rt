@@ -1,6 +1,6 @@
 //! Blocks: fields and matrices of them, and their entries.
-use crate::runs::{Row, assert_printed};
 use std::test::Fail;
+use test_calls::{Row, assert_printed};
 use worked_texts::POINTS;
 
 /// Programs, their tables, and what is printed.
