@@ -1,7 +1,8 @@
 #!/usr/bin/env python3
-"""Writes the hand-written programs to work/programs, work/programs-options and work/programs-sparse, each
-with the answer that reference.py gives, and stops where that differs from the answer given here by
-hand or by second.py.  `want` is the whole output, a dict of columns `set.heading`, or a note line."""
+"""Writes the hand-written programs to work/programs, those with command options to work/programs-options, and again those over
+the limit of dense words to work/programs-sparse, each with the answer that reference.py gives, and stops where that differs from
+the answer given here by hand or by second.py.  `want` is the whole output, a dict of columns `set.heading`, or a note line; without
+it, reference.py stands alone, and the run ends Done unless a `status` is given."""
 import os
 import shutil
 import sys
@@ -103,6 +104,7 @@ def case(group, name, program, tables, want=None, turns=None, status=None, gen=F
             bad("want status %d" % code)
     if want is not None:
         checked.add(name)
+    return st
 
 
 def sparse(name, where, words):
@@ -281,7 +283,7 @@ case(g, "table_end_text", A, ps(springs="p0,p1,k\n-0, 1.0 ,2\n"), {"points.f": [
 case(g, "table_number_files", A, [("points", POINTS)], "refused: 1 files for 2 sets")
 case(g, "type_of_scale", A.replace("map pull to springs reduce +", "points.x * 1.0"), ps(), "refused: line 16: scale")
 case(g, "type_of_name", A.replace("points.f = map pull to springs reduce +", "points.g = points.x"), ps(), "refused: line 16: unknown name")
-case(g, "type_host", HEAD + "extern func least(int(0), int(0)) -> int(0);\nproc main\nend\n", ps(), "refused: line 10: unknown name")
+case(g, "type_host", HEAD + "extern func least(int(0), int(0)) -> int(0);\nproc main\n  points.f = least(3, 2)*points.x;\nend\n", ps(), {"points.f": [0, 20, 50]})
 
 # ---------------------------------------------------------------- CG
 GRADIENTS = os.path.join(os.path.dirname(os.path.abspath(__file__)), "..", "bench", "gradients.py")
@@ -1570,6 +1572,14 @@ case(g, "order_write_after_trap", HEAD + "func f(s : Spring, p : (Point*2)) -> (
 # ---------------------------------------------------------------- index expressions
 import indices
 indices.programs(case, B, ps)
+
+# ---------------------------------------------------------------- functions of the host
+import hosts
+hosts.programs(case, HEAD, ps)
+
+# ---------------------------------------------------------------- each function with each main procedure
+import combined
+combined.programs(case)
 
 if __name__ == "__main__":
     total = 0

@@ -2,7 +2,7 @@
 """python3 check.py COMMAND [DIR.. | -k PREFIX]: runs COMMAND run WORDS.. and COMMAND plain WORDS.. in each program's
 folder and compares standard output, standard error and the status with the files there.
 
-    python3 check.py /path/to/simit                     all of work/programs
+    python3 check.py /path/to/simit                     all of work/programs and work/programs-options
     python3 check.py /path/to/simit -k dense_           the names that begin so
     python3 check.py "python3 $PWD/reference.py"        the interpreter itself, which takes no such word
 """
@@ -37,7 +37,7 @@ def main():
         i = rest.index("-k")
         prefix = rest[i + 1]
         del rest[i:i + 2]
-    dirs = rest or [os.path.join(here, "work", "programs")]
+    dirs = rest or [os.path.join(here, "work", d) for d in ("programs", "programs-options")]
     leads = [[]] if command[-1].endswith("reference.py") else [["run"], ["plain"]]
     bad = n = 0
     for d in dirs:

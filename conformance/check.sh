@@ -1,5 +1,5 @@
 #!/bin/sh
-# Writes some 1,000 programs with the answers of an interpreter of its own, and runs the built program on each.
+# Writes some 1,500 programs with the answers of an interpreter of its own, and runs the built program on each.
 # Usage: sh conformance/check.sh [PROGRAM]; without one, the program that `rt ci` built.
 set -eu
 here=$(cd "$(dirname "$0")" && pwd)
@@ -11,4 +11,5 @@ python3 build.py >work/build.log
 python3 generate.py --write 100 >>work/build.log
 python3 generate.py --write 40 mat >>work/build.log
 python3 generate.py --write 40 ix >>work/build.log
+python3 generate.py --write 40 host >>work/build.log
 exec python3 check.py "$program"

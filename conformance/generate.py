@@ -5,7 +5,8 @@
     python3 generate.py --write N        writes work/programs/gen_000 .. for N seeds
     python3 generate.py --write N mat    writes work/programs/genm_000 .., with many system matrices
     python3 generate.py --write N ix     writes work/programs/geni_000 .., with index expressions
-    python3 generate.py --soak FROM TO [mat|ix]   compares reference.py with the translation only
+    python3 generate.py --write N host   writes work/programs/genh_000 .., with calls of functions of the host
+    python3 generate.py --soak FROM TO [mat|ix|host]   compares reference.py with the translation only
 
 Each program is made twice over: as text of the language, and as a Python text over the dictionary
 tensors of second.py.  Both are run and have to give the same status, output and note.
@@ -81,7 +82,9 @@ class Gen:
     def __init__(self, seed, kind=""):
         self.r = random.Random(seed)
         self.ix = kind == "ix"   # a program of index expressions
-        self.mat = kind != ""    # a program in which system matrices stand in front
+        self.mat = kind in ("mat", "ix")    # a program in which system matrices stand in front
+        self.host = kind == "host"          # a program that calls functions of the host
+        self.hosts = []          # those that are declared: (name, the scales of the arguments, that of the answer)
         self.broken = []         # the lines of index expressions that aren't in chain form
         self.lines = []          # the program's text
         self.py = []             # the translation
@@ -241,7 +244,7 @@ class Gen:
         ops = ["leaf", "sum", "sum", "neg", "scalar", "scalar", "rescale"]
         num = form == ("L", ())
         if num:
-            ops += ["dot", "quot", "isqrt"]
+            ops += ["dot", "quot", "isqrt"] + ["call"] * (8 if self.hosts else 0)
         elif form[0] == "L":
             ops += ["block", "mul", "mul"]
             if len(form[1]) == 1:
@@ -322,6 +325,12 @@ class Gen:
             else:
                 b = self.ex(("L", (), tb), d - 1)
             return ("quot(%s, %s, %d)" % (a[0], b[0], s), 3, "quot(%s, %d, %s, %d, %d)" % (a[2], sa, b[2], tb, s))
+        if op == "call":
+            name, scales, k = r.choice(self.hosts)
+            if abs(k - s) > 18:
+                return None
+            args = [self.ex(("L", (), a), d - 1) for a in scales]
+            return self.rescaled(("%s(%s)" % (name, ", ".join(a[0] for a in args)), 3, "%s(%s)" % (name, ", ".join(a[2] for a in args))), k, s)
         if op == "isqrt":
             lo, hi = max(0, 2 * s - 18), min(18, 2 * s)
             if lo > hi:
@@ -462,6 +471,11 @@ class Gen:
         for k in range(r.choice([0, 1, 1, 1, 2, 3])):
             name, shape = r.choice(eelem)
             self.set("l%d" % k, name, shape, r.choice(vs), r.choice([1, 2, 2, 2, 3, 4]))
+        if self.host:
+            for name in r.sample(["clamp0", "least", "most", "mix", "square"], r.randint(1, 5)):
+                scales = [self.scale() for _ in range(2 if name in ("least", "most") else 1)]
+                self.hosts.append((name, scales, r.choice([scales[0], scales[0], self.scale(), 36])))
+                self.emit(0, "extern func %s(%s) -> int(%d);" % (name, ", ".join("int(%d)" % k for k in scales), self.hosts[-1][2]))
 
     def element(self, name, n):
         self.emit(0, "element " + name)
@@ -1091,7 +1105,8 @@ class Gen:
             return 2, "", "refused: line %d: not a chain" % min(self.broken)
         m = Machine(self.sets, turns)
         space = {"second": second, "compare": compare, "judge": judge}
-        for k in ("add", "sub", "neg", "scal", "emul", "dot", "resc", "quot", "isqrt", "lmv", "lmm", "ltr", "smv", "smm", "strn", "lit", "wrap"):
+        for k in ("add", "sub", "neg", "scal", "emul", "dot", "resc", "quot", "isqrt", "lmv", "lmm", "ltr", "smv", "smm", "strn", "lit", "wrap",
+                  "clamp0", "least", "most", "mix", "square"):
             space[k] = getattr(second, k)
         space["rscal"] = lambda x, c: second.scal(c, x)
         exec(compile("\n".join(self.py) + "\n", "translation", "exec"), space)
@@ -1157,7 +1172,8 @@ def main():
             where = "%s/programs/%s_%03d" % (HERE, stem, made)
             got, want, py, n = make(seed, where, kind)
             main_ = py[py.index("def main"):]
-            if kind and main_.count("smv(") + main_.count("smm(") < 2:
+            if kind in ("mat", "ix") and main_.count("smv(") + main_.count("smm(") < 2 or kind == "host" and sum(
+                    py.count(name + "(") for name in ("clamp0", "least", "most", "mix", "square")) < 4:
                 seed += 1
                 continue
             assert got == want, (seed, got, want)

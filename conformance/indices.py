@@ -412,8 +412,10 @@ def programs(case, B, ps):
     case("index", "ix_chain_before_function", PRE.replace("A(p(0),p(1)) = s.m", "A(p(0),p(1)) = nope") + "  ns.z = %s;\nend\n" % bad, [],
          "refused: line %d: not a chain" % (first + 1))
     host = "extern func least(int(0), int(0)) -> int(0);\n"
-    case("index", "ix_with_host", host + PRE + "  ns.z = ix (i) ns.z(i);\nend\n", tables, "refused: line 1: unknown name")
-    case("index", "ix_chain_before_host", host + PRE + "  ns.z = %s;\nend\n" % bad, tables, "refused: line %d: not a chain" % (first + 2))
+    case("index", "ix_with_host", host + PRE + "  ns.z = ix (i) ns.z(i);\n  ns.y = least(2, 3)*ns.z;\nend\n", tables,
+         {**column("ns.z", st["ns.z"]), **column("ns.y", scal(2, st["ns.z"]))})
+    case("index", "ix_before_unknown_host", host.replace("least", "gcd") + PRE + "  ns.z = ix (i) ns.z(i);\nend\n", tables, "refused: line 1: unknown name")
+    case("index", "ix_chain_before_host", host.replace("least", "gcd") + PRE + "  ns.z = %s;\nend\n" % bad, tables, "refused: line %d: not a chain" % (first + 2))
     case("index", "ix_chain_before_files", PRE + "  ns.z = ix (i) ns.z(i);\nend\n", [], "refused: 0 files for 2 sets")
 
     def syntax(name, before, rest):

@@ -4,7 +4,7 @@
     python3 reference.py PROGRAM SETS.. [--turns N]
 
 Standard output, the note line and the status are those of `simit run` in the stage where
-every matrix is dense and no host functions run.
+every matrix is dense; the functions of the host are those of the program `simit`.
 
 An index expression has the types of what it lowers to, and so its faults and its dense matrices; its value
 is the sum of its products, written out over all values of the summed indices.
@@ -47,6 +47,19 @@ def w_isqrt(a, s, d):
     if a >= HALF:
         raise Trap("root of a negative number")
     return math.isqrt(a * 10 ** (2 * d - s))
+
+
+HOSTS = {       # a function of the host: how many arguments it takes, and what it answers, on signed numbers
+    "clamp0": (1, lambda a: max(a, 0)),
+    "least": (2, min),
+    "most": (2, max),
+    "mix": (1, lambda a: 6364136223846793005 * a + 1442695040888963407),
+    "square": (1, lambda a: a * a),
+}
+
+
+def w_host(name, words):
+    return HOSTS[name][1](*map(signed, words)) & MASK
 
 
 def cell_text(d, w):
@@ -283,14 +296,14 @@ class Parser:
             if self.accept("func"):
                 name = self.name()
                 self.need("(")
-                self.int()
+                scales = [self.int()]
                 while self.accept(","):
-                    self.int()
+                    scales.append(self.int())
                 self.need(")")
                 self.need("->")
-                self.int()
+                scales.append(self.int())
                 self.need(";")
-                return N("host", line, name=name)
+                return N("host", line, name=name, scales=scales)
             name = self.name()
             self.need(":")
             self.need("set")
@@ -889,7 +902,7 @@ def with_scale(t, s):
 
 class Types:
     def __init__(self, decls, body):
-        self.elements, self.sets, self.funcs = {}, {}, {}
+        self.elements, self.sets, self.funcs, self.hosts = {}, {}, {}, {}
         self.set_order = []
         self.scopes = []
         self.count = 0
@@ -902,9 +915,10 @@ class Types:
 
     # names
     def known(self, name):
-        if name in self.elements or name in self.sets or name in self.funcs:
-            return True
-        return any(name in s for s in self.scopes)
+        return self.is_declared(name) or any(name in s for s in self.scopes)
+
+    def is_declared(self, name):
+        return any(name in space for space in (self.elements, self.sets, self.funcs, self.hosts))
 
     def find(self, name):
         for s in reversed(self.scopes):
@@ -967,7 +981,16 @@ class Types:
         self.set_order.append(d.name)
 
     def d_host(self, d):
-        refuse(d.line, UNKNOWN)
+        if d.name not in HOSTS:
+            refuse(d.line, UNKNOWN)
+        if self.known(d.name):
+            refuse(d.line, TWICE)
+        scales = [self.whole(s, d.line) for s in d.scales]
+        if len(scales) - 1 != HOSTS[d.name][0]:
+            refuse(d.line, SHAPE)
+        if any(s > 36 for s in scales):
+            refuse(d.line, SCALE)
+        self.hosts[d.name] = scales[:-1], scales[-1]
 
     def d_func(self, d):
         scope = {}
@@ -1037,7 +1060,7 @@ class Types:
             cost = self.ex(s.value)
             v = self.find(s.name)
             if v is None:
-                refuse(s.line, NOTPLACE if self.known(s.name) else UNKNOWN)
+                refuse(s.line, UNKNOWN)
             if v[0] != "value" or v[2] != "var":
                 refuse(s.line, NOTPLACE)
             self.equal(s.line, v[1], s.value.t)
@@ -1050,8 +1073,7 @@ class Types:
             else:
                 bounds = (int(s.lo), int(s.hi))
             self.scopes.append({s.name: ("value", ("L", (), 0), "loop", bounds)})
-            twice = any(s.name in x for x in self.scopes[:-1]) or s.name in self.elements \
-                or s.name in self.sets or s.name in self.funcs
+            twice = any(s.name in x for x in self.scopes[:-1]) or self.is_declared(s.name)
             inner = self.stmts_fn(s.body)
             self.scopes.pop()
             if twice:
@@ -1312,6 +1334,10 @@ class Types:
 
     def e_ref(self, n):
         cost = sum(self.ex(a) for a in n.args) + sum(self.ex(a) for a in n.fargs)
+        if n.field is None and n.name in self.hosts:
+            self.call(n)
+            self.ranked(n)
+            return cost + 1
         if self.fn is None:
             if n.field is not None:
                 if n.name not in self.sets:
@@ -1366,6 +1392,15 @@ class Types:
         n.whole_block = b
         n.t = ("L", () if fidx else b, s)
         return cost + size(n.t[1])
+
+    def call(self, n):
+        scales, scale = self.hosts[n.name]
+        if len(n.args) != len(scales) or any(not is_num(a.t) for a in n.args):
+            refuse(n.line, SHAPE)
+        if any(a.t[-1] != s for a, s in zip(n.args, scales)):
+            refuse(n.line, SCALE)
+        n.what = "host"
+        n.t = ("L", (), scale)
 
     def ranked(self, n):
         if n.rank is not None and n.t[0] != "LVM"[n.rank]:
@@ -1691,6 +1726,8 @@ class Run:
         if k == "num":
             return n.word
         if k == "ref":
+            if n.what == "host":
+                return w_host(n.name, [self.ev(a) for a in n.args])
             return self.sets[n.name].values[n.field] if n.what == "field" else self.vars[n.name]
         if k == "neg":
             return each(lambda x: -x & MASK, self.ev(n.a))
@@ -1873,6 +1910,8 @@ class Element:
         if k == "num":
             return n.word
         if k == "ref":
+            if n.what == "host":
+                return w_host(n.name, [self.ev(a) for a in n.args])
             if n.what == "var":
                 v = self.vars[n.name]
             else:

@@ -75,6 +75,14 @@ def isqrt(a, s, d):
     return lo
 
 
+# functions of the host
+def clamp0(a): return a if a > 0 else 0
+def least(a, b): return a if a < b else b
+def most(a, b): return a if a > b else b
+def mix(a): return wrap(a * 6364136223846793005 + 1442695040888963407)
+def square(a): return wrap(a * a)
+
+
 # local products
 def lmv(a, x):
     out = {}
