@@ -85,11 +85,3 @@ pub fn points_alone(alloc: Global, count: u32) -> Result<Sets, Fail>
         Err(_) => Err(Fail::new("a bad endpoint")),
     }
 }
-
-/// No sets.
-pub fn no_sets(alloc: Global) -> Result<Sets, Fail> {
-    match Sets::of(Vec::new(alloc)) {
-        Ok(sets) => Ok(sets),
-        Err(_) => Err(Fail::new("a bad endpoint")),
-    }
-}

@@ -1,4 +1,5 @@
-//! The tests of the calls that run typed programs, and of those that ask about them: what no public clause says.
+//! The tests of the calls that ask what the run of a typed program takes, and of those between its sets and tables: what no
+//! public clause says.
 //!
 //! Each module is about one subject.
 #![tactic(auto)]
@@ -9,7 +10,5 @@ mod dense;
 mod fields;
 #[cfg(test)]
 mod graphs;
-#[cfg(test)]
-mod turns;
 #[cfg(test)]
 mod typing;
